@@ -1,0 +1,3 @@
+pub mod Bools
+pub mod Table
+pub mod Legal

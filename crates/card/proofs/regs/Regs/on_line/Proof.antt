@@ -1,0 +1,14 @@
+-- `card::regs::Regs::on_line` meets its contract. Assumes nothing.
+use Rattle.card.specs.Row.{onLine}
+use borrow.Author.Needs.{needs}
+use Rattle.card.proofs.regs.Regs.on_line.Statement.{statement}
+use Rattle.card.proofs.regs.Regs.on_line.Tie as tie
+
+returns : tie.Need-returns
+unfolding onLine
+returns c = simp (c .before .awake .ensures)
+
+pub on-line-spec : {M : Type 1} → statement M
+on-line-spec =
+    tie.close
+    (tie.spec (λ c κs. search needs) returns)

@@ -1,0 +1,95 @@
+-- Document 01, "The saved network": a row, its register bytes, and when it is well formed.
+-- Assumes nothing.
+use mathlib.Core.Bool.{Bool, true, false, not, _&&_, _||_}
+use mathlib.Core.List.{List, [], _∷_}
+use Prim.Native.Nat.{ℕ, _+_, _-_}
+use lib.Dec.{eqb}
+use lib.ListN.{getD, take, drop}
+use lib.Seq.{sets}
+use Rattle.card.specs.declared.regs.Regs.{Regs}
+use Rattle.card.specs.Words.{clear, has}
+use Rattle.card.specs.Flags.{RI, TMA, TA, RESET, TXEN, LOW2, only, statusBits, diagnosticBits, maskBits, configurationBits, setupBits, modeBits, transmitBits, receiveBits}
+
+-- "n rows of 1,088 bytes: 64 of registers, then 1,024 of RAM"
+abbrev pub registerBytes : ℕ
+registerBytes = 64
+
+abbrev pub ramBytes : ℕ
+ramBytes = 1024
+
+abbrev pub rowBytes : ℕ
+rowBytes = registerBytes + ramBytes
+
+-- "Register bytes of a row: 0-1 mark 4E 44"
+abbrev pub mark : List ℕ
+mark = 0x4e ∷ 0x44 ∷ []
+
+-- "2 node ID; 3 status; 4 diagnostic status; 5 interrupt mask; 6 configuration; 7 setup; 8 tentative ID; 9 NID; 10 pointer high (0-3);
+-- 11 pointer low; 12 mode; 13 transmit; 14 receive; 15 long packets 0 or 1"
+unfoldable pub regsOf : List ℕ → Regs
+regsOf r = record {
+  id = getD r 2 0;
+  status = getD r 3 0;
+  diagnostic = getD r 4 0;
+  mask = getD r 5 0;
+  configuration = getD r 6 0;
+  setup = getD r 7 0;
+  tentative = getD r 8 0;
+  nid = getD r 9 0;
+  high = getD r 10 0;
+  low = getD r 11 0;
+  mode = getD r 12 0;
+  transmit = getD r 13 0;
+  receive = getD r 14 0;
+  long = getD r 15 0;
+}
+
+abbrev pub bytesOf : Regs → List ℕ
+bytesOf g =
+    g .id ∷ g .status ∷ g .diagnostic ∷ g .mask ∷ g .configuration ∷ g .setup ∷ g .tentative ∷ g .nid ∷ g .high ∷ g .low ∷ g .mode ∷
+    g .transmit ∷ g .receive ∷ g .long ∷ []
+
+-- the row with the registers g at bytes 2 to 15
+unfoldable pub putRegs : List ℕ → Regs → List ℕ
+putRegs r g = sets r 2 (bytesOf g)
+
+-- "16-63 zero"
+unfoldable pub zeros : List ℕ → Bool
+zeros [] = true
+zeros (x ∷ l) = eqb x 0 && zeros l
+
+abbrev pub spare : List ℕ → List ℕ
+spare r = take (registerBytes - 16) (drop 16 r)
+
+-- "Awake: ID not 0 and RESET clear. On line: awake and TXEN set."
+unfoldable pub awake : Regs → Bool
+awake g = not (eqb (g .id) 0) && clear RESET (g .configuration)
+
+unfoldable pub onLine : Regs → Bool
+onLine g = awake g && has TXEN (g .configuration)
+
+-- "Unnamed bits are zero", "CCHEN = 0"
+abbrev pub named : Regs → Bool
+named g =
+    only statusBits (g .status) && only diagnosticBits (g .diagnostic) && only maskBits (g .mask)
+    && only configurationBits (g .configuration) && only setupBits (g .setup) && only LOW2 (g .high) && only modeBits (g .mode)
+    && only transmitBits (g .transmit) && only receiveBits (g .receive) && only 1 (g .long)
+
+-- "TA = 1 only with byte 13 zero; RI = 1 only with byte 14 zero; TMA = 1 only with TA = 1;
+-- with long packets 1, an enabled page (TA = 0, RI = 0) is even"
+abbrev pub agree : Regs → Bool
+agree g =
+    (clear TA (g .status) || eqb (g .transmit) 0) && (clear RI (g .status) || eqb (g .receive) 0)
+    && (clear TMA (g .status) || has TA (g .status))
+    && (eqb (g .long) 0 || has TA (g .status) || clear 1 (g .transmit))
+    && (eqb (g .long) 0 || has RI (g .status) || clear 1 (g .receive))
+
+unfoldable pub fit : Regs → Bool
+fit g = named g && agree g
+
+unfoldable pub marked : List ℕ → Bool
+marked r = eqb (getD r 0 0) (getD mark 0 0) && eqb (getD r 1 0) (getD mark 1 0)
+
+-- a row's own well-formedness
+unfoldable pub wellFormed : List ℕ → Bool
+wellFormed r = marked r && fit (regsOf r) && zeros (spare r)
