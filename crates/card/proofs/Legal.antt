@@ -12,17 +12,9 @@ use Rattle.card.specs.declared.commands.Command.the-variants.{Illegal, D
 use Rattle.card.specs.declared.commands.Legal.{Legal}
 use Rattle.card.specs.Words.{pick}
 use Rattle.card.specs.Commands.{commandOf, legalBytes}
+use Rattle.card.specs.Refusals.{illegal}
 use Rattle.card.proofs.Table.{tab, entry, by-table}
 use Rattle.card.proofs.Bools.{and-left, and-right}
-
-abbrev illegal : Command → Bool
-illegal Illegal = true
-illegal DisableTransmitter = false
-illegal DisableReceiver = false
-illegal (EnableTransmit p) = false
-illegal (EnableReceive p b) = false
-illegal (LongPackets l) = false
-illegal (ClearFlags p r) = false
 
 is-illegal : (k : Command) → illegal k ≡ true → k ≡ Illegal
 is-illegal Illegal h = refl

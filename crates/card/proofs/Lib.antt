@@ -1,3 +1,5 @@
 pub mod Bools
 pub mod Table
 pub mod Legal
+pub mod Zeros
+pub mod Accesses

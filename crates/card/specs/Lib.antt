@@ -5,3 +5,5 @@ pub mod Fields
 pub mod Row
 pub mod Commands
 pub mod Registers
+pub mod Refusals
+pub mod Access

@@ -1,6 +1,7 @@
 // Document 01, "Twenty command bytes are legal, in hex".
 ghost use mathlib.Core.Path.{_≡_};
 ghost use Rattle.card.specs.Commands.{commandOf};
+ghost use Rattle.card.specs.Refusals.{illegal};
 
 // What a byte written to register 1 asks of the card. Pages are 0 to 3.
 pub enum Command {
@@ -55,4 +56,20 @@ pub fn decode(byte: u8) -> Command
         i += 1;
     }
     Command::Illegal
+}
+
+impl Command {
+    pub fn illegal(self) -> bool
+        ensures { λ r. ⌜ r ≡ illegal self ⌝ }
+    {
+        match self {
+            Command::Illegal => true,
+            Command::DisableTransmitter => false,
+            Command::DisableReceiver => false,
+            Command::EnableTransmit(_) => false,
+            Command::EnableReceive(_, _) => false,
+            Command::LongPackets(_) => false,
+            Command::ClearFlags(_, _) => false,
+        }
+    }
 }

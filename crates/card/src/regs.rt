@@ -3,8 +3,10 @@ ghost use mathlib.Core.Path.{_≡_};
 ghost use Prim.Native.Nat.{_<_};
 ghost use Rattle.card.specs.Row.{awake, onLine, fit};
 ghost use Rattle.card.specs.Registers.{pointer, stepped, seventh, readValue, afterRead, hardwareReset, configured, interrupt, commanded, seventhWritten, afterWrite};
+ghost use Rattle.card.specs.Refusals.{noRegister, badValue, busy, oddPage, readCases, writeCases};
 use crate::commands::Command;
 use crate::commands::decode;
+use crate::numbers::Cases;
 use crate::numbers::choose;
 
 const RI: u8 = 1 << 7;
@@ -306,5 +308,78 @@ impl Regs {
             6 => self.configured(value),
             _ => self.seventh_written(value),
         }
+    }
+
+    // REGISTER: no such register, or none at this sub-address.
+    fn no_register(self, register: usize) -> bool
+        ensures { λ r. ⌜ r ≡ noRegister self register ⌝ }
+    {
+        (7 < register) | (register == 5) | (register == 7) & (self.configuration % 4 == 3)
+    }
+
+    // VALUE: a bit that the register has no name for, or a byte that is no command.
+    fn bad_value(self, register: usize, value: u8) -> bool
+        ensures { λ r. ⌜ r ≡ badValue self register value ⌝ }
+    {
+        (register == 0) & (value & !MASK != 0)
+            | (register == 1) & decode(value).illegal()
+            | (register == 2) & (value & !MODE != 0)
+            | (register == 6) & (value & !CONFIGURATION != 0)
+            | (register == 7) & (self.configuration % 4 == 2) & (value & !SETUP != 0)
+    }
+
+    // BUSY: what the command would start or change is enabled already.
+    fn busy(self, command: Command) -> bool
+        ensures { λ r. ⌜ r ≡ busy self command ⌝ }
+    {
+        match command {
+            Command::Illegal => false,
+            Command::DisableTransmitter => false,
+            Command::DisableReceiver => false,
+            Command::EnableTransmit(_) => self.status & TA == 0,
+            Command::EnableReceive(_, _) => self.status & RI == 0,
+            Command::LongPackets(_) => (self.status & TA == 0) | (self.status & RI == 0),
+            Command::ClearFlags(_, _) => false,
+        }
+    }
+
+    // PAGE: an Enable of an odd page with long packets.
+    fn odd_page(self, command: Command) -> bool
+        ensures { λ r. ⌜ r ≡ oddPage self command ⌝ }
+    {
+        match command {
+            Command::Illegal => false,
+            Command::DisableTransmitter => false,
+            Command::DisableReceiver => false,
+            Command::EnableTransmit(page) => (page & 1 != 0) & (self.long == 1),
+            Command::EnableReceive(page, _) => (page & 1 != 0) & (self.long == 1),
+            Command::LongPackets(_) => false,
+            Command::ClearFlags(_, _) => false,
+        }
+    }
+
+    pub fn read_cases(self, register: usize) -> Cases
+        ensures { λ r. ⌜ r ≡ readCases self register ⌝ }
+    {
+        let mut cases = Cases::none();
+        cases.register = self.no_register(register);
+        cases.direction = (register == 4) & (self.mode & RDDATA == 0);
+        cases
+    }
+
+    pub fn write_cases(self, register: usize, value: u8, online: bool, duplicate: bool) -> Cases
+        ensures { λ r. ⌜ r ≡ writeCases self register value online duplicate ⌝ }
+    {
+        let command = decode(value);
+        let mut cases = Cases::none();
+        cases.register = self.no_register(register);
+        cases.value = self.bad_value(register, value);
+        cases.notready = (register == 1) & !self.awake();
+        cases.direction = (register == 4) & (self.mode & RDDATA != 0);
+        cases.busy = (register == 1) & self.busy(command);
+        cases.online = online;
+        cases.page = (register == 1) & self.odd_page(command);
+        cases.duplicate = duplicate;
+        cases
     }
 }

@@ -1,0 +1,12 @@
+-- `card::regs::Regs::bad_value` meets its contract. Assumes nothing.
+use borrow.Author.Needs.{needs}
+use Rattle.card.proofs.regs.Regs.bad_value.Statement.{statement}
+use Rattle.card.proofs.regs.Regs.bad_value.Tie as tie
+
+returns : tie.Need-returns
+returns c = simp (c .before .illegal .ensures, c .before .before .decode .ensures)
+
+pub bad-value-spec : {M : Type 1} → statement M
+bad-value-spec =
+    tie.close
+    (tie.spec (λ c κs. search needs) (λ c κs. search needs) returns)
