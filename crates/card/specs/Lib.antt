@@ -7,3 +7,4 @@ pub mod Commands
 pub mod Registers
 pub mod Refusals
 pub mod Access
+pub mod Events

@@ -1,6 +1,7 @@
--- The words that the definitions are written in: a choice, and the bits of a byte.
+-- The words that the definitions are written in: a choice, a list of tests, and the bits of a byte.
 -- Assumes nothing.
-use mathlib.Core.Bool.{Bool, true, false, not}
+use mathlib.Core.Bool.{Bool, true, false, not, _&&_}
+use mathlib.Core.List.{List, [], _∷_}
 use Prim.Native.Nat.{ℕ, _-_}
 use lib.Bits.{bitAnd, bitOr}
 use lib.Dec.{eqb}
@@ -9,6 +10,14 @@ abbrev pub pick : {A : Type 0} → Bool → A → A → A
 pick true a b = a
 pick false a b = b
 
+-- every test of the list holds
+abbrev pub allAfter : Bool → List Bool → Bool
+allAfter b [] = b
+allAfter b (c ∷ l) = allAfter (b && c) l
+
+abbrev pub all : List Bool → Bool
+all l = allAfter true l
+
 -- none of the bits f is set in the byte x; some bit of f is
 abbrev pub clear : ℕ → ℕ → Bool
 clear f x = eqb (bitAnd x f) 0
@@ -16,9 +25,12 @@ clear f x = eqb (bitAnd x f) 0
 abbrev pub has : ℕ → ℕ → Bool
 has f x = not (clear f x)
 
--- the byte x with the bits f set to 1; to 0
+-- the byte x with the bits f set to 1; so where b holds; with the bits f set to 0
 abbrev pub raise : ℕ → ℕ → ℕ
 raise f x = bitOr x f
+
+abbrev pub raiseIf : Bool → ℕ → ℕ → ℕ
+raiseIf b f x = pick b (raise f x) x
 
 abbrev pub lower : ℕ → ℕ → ℕ
 lower f x = bitAnd x (255 - f)

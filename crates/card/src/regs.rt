@@ -9,27 +9,27 @@ use crate::commands::decode;
 use crate::numbers::Cases;
 use crate::numbers::choose;
 
-const RI: u8 = 1 << 7;
+pub(crate) const RI: u8 = 1 << 7;
 
-const POR: u8 = 1 << 4;
+pub(crate) const POR: u8 = 1 << 4;
 
-const RECON: u8 = 1 << 2;
+pub(crate) const RECON: u8 = 1 << 2;
 
-const TMA: u8 = 1 << 1;
+pub(crate) const TMA: u8 = 1 << 1;
 
-const TA: u8 = 1;
+pub(crate) const TA: u8 = 1;
 
-const MYRECON: u8 = 1 << 7;
+pub(crate) const MYRECON: u8 = 1 << 7;
 
-const DUPID: u8 = 1 << 6;
+pub(crate) const DUPID: u8 = 1 << 6;
 
-const RCVACT: u8 = 1 << 5;
+pub(crate) const RCVACT: u8 = 1 << 5;
 
-const TOKEN: u8 = 1 << 4;
+pub(crate) const TOKEN: u8 = 1 << 4;
 
 const EXCNAK: u8 = 1 << 3;
 
-const TENTID: u8 = 1 << 2;
+pub(crate) const TENTID: u8 = 1 << 2;
 
 const RESET: u8 = 1 << 7;
 
@@ -41,9 +41,9 @@ const RDDATA: u8 = 1 << 7;
 
 const AUTO_INC: u8 = 1 << 6;
 
-const CANCEL: u8 = 1 << 7;
+pub(crate) const CANCEL: u8 = 1 << 7;
 
-const BROADCASTS: u8 = 1 << 6;
+pub(crate) const BROADCASTS: u8 = 1 << 6;
 
 const LOW2: u8 = 3;
 
@@ -131,7 +131,10 @@ impl Regs {
     pub fn fit(self) -> bool
         ensures { λ r. ⌜ r ≡ fit self ⌝ }
     {
-        let named = (self.status & !STATUS == 0)
+        let short = self.long == 0;
+        let ta = self.status & TA != 0;
+        let ri = self.status & RI != 0;
+        (self.status & !STATUS == 0)
             & (self.diagnostic & !DIAGNOSTIC == 0)
             & (self.mask & !MASK == 0)
             & (self.configuration & !CONFIGURATION == 0)
@@ -140,16 +143,12 @@ impl Regs {
             & (self.mode & !MODE == 0)
             & (self.transmit & !TRANSMIT == 0)
             & (self.receive & !RECEIVE == 0)
-            & (self.long & !1 == 0);
-        let short = self.long == 0;
-        let ta = self.status & TA != 0;
-        let ri = self.status & RI != 0;
-        named
-            & (((self.status & TA == 0) | (self.transmit == 0))
-                & ((self.status & RI == 0) | (self.receive == 0))
-                & ((self.status & TMA == 0) | ta)
-                & (short | ta | (self.transmit & 1 == 0))
-                & (short | ri | (self.receive & 1 == 0)))
+            & (self.long & !1 == 0)
+            & ((self.status & TA == 0) | (self.transmit == 0))
+            & ((self.status & RI == 0) | (self.receive == 0))
+            & ((self.status & TMA == 0) | ta)
+            & (short | ta | (self.transmit & 1 == 0))
+            & (short | ri | (self.receive & 1 == 0))
     }
 
     // The RAM address that register 4 reads or writes.

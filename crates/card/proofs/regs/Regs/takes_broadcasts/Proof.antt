@@ -1,0 +1,14 @@
+-- `card::regs::Regs::takes_broadcasts` meets its contract. Assumes nothing.
+use Rattle.card.specs.Events.{takesBroadcasts}
+use borrow.Author.Needs.{needs}
+use Rattle.card.proofs.regs.Regs.takes_broadcasts.Statement.{statement}
+use Rattle.card.proofs.regs.Regs.takes_broadcasts.Tie as tie
+
+returns : tie.Need-returns
+unfolding takesBroadcasts
+returns c = simp (c .before .before .awake .ensures)
+
+pub takes-broadcasts-spec : {M : Type 1} → statement M
+takes-broadcasts-spec =
+    tie.close
+    (tie.spec (λ c κs. search needs) returns)

@@ -1,0 +1,11 @@
+-- `card::regs::Regs::transmit_page` meets its contract: the code is the definition, word for word. Assumes nothing.
+use Rattle.card.specs.Events.{transmitPage}
+use borrow.Author.Needs.{needs}
+use Rattle.card.proofs.regs.Regs.transmit_page.Statement.{statement}
+use Rattle.card.proofs.regs.Regs.transmit_page.Tie as tie
+
+pub transmit-page-spec : {M : Type 1} → statement M
+unfolding transmitPage
+transmit-page-spec =
+    tie.close
+    (tie.spec (λ c. search needs) (λ c. search needs))
