@@ -4,3 +4,7 @@ pub mod Masks
 pub mod Legal
 pub mod Zeros
 pub mod Accesses
+pub mod Laid
+pub mod Sizes
+pub mod Carried
+pub mod Pages

@@ -7,4 +7,5 @@ pub mod Commands
 pub mod Registers
 pub mod Refusals
 pub mod Access
+pub mod Packets
 pub mod Events

@@ -3,5 +3,6 @@
 pub mod commands;
 pub mod events;
 pub mod numbers;
+pub mod packets;
 pub mod regs;
 pub mod row;

@@ -1,0 +1,88 @@
+-- Document 01, "Packets" (001, 000): the shape of a page, the reader, and storing a packet in another page.
+-- Assumes nothing.
+use mathlib.Core.Bool.{Bool, true, false, _&&_, _||_}
+use mathlib.Core.List.{List, [], _++_}
+use Prim.Native.Nat.{ℕ, _+_, _-_, _*_, _%_}
+use lib.Dec.{eqb, leb, ltb}
+use lib.ListN.{length, getD, take, drop, replicate, set}
+use Rattle.card.specs.declared.packets.Shape.{Shape}
+use Rattle.card.specs.declared.packets.Shape.the-variants.{Malformed, Short, Long}
+use Rattle.card.specs.declared.packets.Packet.{Packet}
+use Rattle.card.specs.Words.{pick, clear}
+use Rattle.card.specs.Numbers.{numberOf}
+use Rattle.card.specs.Row.{registerBytes, regsOf}
+use Rattle.card.specs.Refusals.{accessCases}
+
+-- "COUNT 3-255: .. COUNT 0, with long packets 1 and an even page: byte 3 is COUNT, 4-255 .. All else is malformed": of the byte
+-- at offset 2, the one after it, and whether the page may be long
+unfoldable pub shapeOf : ℕ → ℕ → Bool → Shape
+shapeOf count next long = pick (leb 3 count) (Short count) (pick (eqb count 0 && long && leb 4 next) (Long next) Malformed)
+
+-- "N = 256 - COUNT", "N = 512 - COUNT"
+abbrev pub dataBytes : Shape → ℕ
+dataBytes Malformed = 0
+dataBytes (Short c) = 256 - c
+dataBytes (Long c) = 512 - c
+
+-- the data stand "at page offsets COUNT to 255", or "at COUNT to 511"
+abbrev pub dataAt : Shape → ℕ
+dataAt Malformed = 0
+dataAt (Short c) = c
+dataAt (Long c) = c
+
+-- "SID, DID, COUNT byte or bytes"
+abbrev pub headBytes : Shape → ℕ
+headBytes Malformed = 0
+headBytes (Short c) = 3
+headBytes (Long c) = 4
+
+abbrev pub pageBytes : Shape → ℕ
+pageBytes Malformed = 0
+pageBytes (Short c) = 256
+pageBytes (Long c) = 512
+
+-- "page = 2n + f, at RAM address 256 x page"
+abbrev pub pageAt : ℕ → ℕ
+pageAt p = registerBytes + 256 * p
+
+unfoldable pub pageShape : List ℕ → ℕ → Shape
+pageShape r p = shapeOf (getD r (pageAt p + 2) 0) (getD r (pageAt p + 3) 0) (eqb (regsOf r .long) 1 && clear 1 p)
+
+abbrev pub malformed : Shape → Bool
+malformed Malformed = true
+malformed (Short c) = false
+malformed (Long c) = false
+
+-- "4 VALUE: .. reader: page above 3 or malformed"
+unfoldable pub dataNumber : List ℕ → ℕ → ℕ
+dataNumber r p = numberOf (accessCases false (ltb 3 p || malformed (pageShape r p)) false false false false false false)
+
+-- "A reader asks for the data of a page of a row and gets back that stretch ..; a refusal gives a stretch of length 0"
+unfoldable pub pageData : List ℕ → ℕ → List ℕ
+pageData r p =
+    pick (ltb 3 p) [] (take (dataBytes (pageShape r p)) (drop (pageAt p + dataAt (pageShape r p)) r))
+
+-- the packet of a page, read out: its shape and the page's bytes, with zeros up to 512
+unfoldable pub packetAt : List ℕ → ℕ → Packet
+packetAt r p = record {
+  shape = pageShape r p;
+  bytes = take (pageBytes (pageShape r p)) (drop (pageAt p) r) ++ replicate (512 - pageBytes (pageShape r p)) 0;
+}
+
+-- the list xs with ys in the place of as many from the a-th on
+abbrev pub laid : ℕ → List ℕ → List ℕ → List ℕ
+laid a ys xs = take a xs ++ (ys ++ drop (length ys) (drop a xs))
+
+abbrev pub headOf : Packet → List ℕ
+headOf k = take (headBytes (k .shape)) (k .bytes)
+
+abbrev pub dataOf : Packet → List ℕ
+dataOf k = take (dataBytes (k .shape)) (drop (dataAt (k .shape)) (k .bytes))
+
+-- "Storing: SID, DID, COUNT byte or bytes and data go to the same offsets of the receive page, the gap is untouched"
+unfoldable pub stored : List ℕ → ℕ → Packet → List ℕ
+stored r p k = laid (pageAt p + dataAt (k .shape)) (dataOf k) (laid (pageAt p) (headOf k) r)
+
+-- "own ID is first written at byte 0 of the transmit page"
+unfoldable pub stamped : List ℕ → ℕ → List ℕ
+stamped r p = set r (pageAt p) (regsOf r .id)

@@ -1,0 +1,177 @@
+// Document 01, "Packets": the shape of a page, the reader, and the packet read out and stored.
+ghost use mathlib.Core.Path.{_≡_};
+ghost use Prim.Native.Nat.{_+_, _*_, _≤_, _<_};
+ghost use lib.ListN.{length};
+ghost use Rattle.card.specs.Row.{rowBytes};
+ghost use Rattle.card.specs.Packets.{shapeOf, dataBytes, dataAt, headBytes, pageBytes, pageAt, malformed, pageShape, dataNumber, pageData, packetAt, stored, stamped};
+use crate::numbers::Cases;
+use crate::row::REGISTERS;
+use crate::row::load;
+
+// What a page holds, and the COUNT byte of a packet: the page offset at which its data start.
+pub enum Shape {
+    Malformed,
+    Short(u8),
+    Long(u8),
+}
+
+// A packet that was read out of a page: the page's bytes, and zeros up to 512.
+pub struct Packet {
+    pub shape: Shape,
+    pub bytes: [u8; 512],
+}
+
+// The shape by the byte at offset 2, the byte after it, and whether the page may be long.
+pub fn shape_of(count: u8, next: u8, long: bool) -> Shape
+    ensures { λ r. ⌜ r ≡ shapeOf count next long ⌝ }
+{
+    if 3 <= count {
+        return Shape::Short(count);
+    }
+    if (count == 0) & long & (4 <= next) {
+        return Shape::Long(next);
+    }
+    Shape::Malformed
+}
+
+impl Shape {
+    pub fn malformed(self) -> bool
+        ensures { λ r. ⌜ r ≡ malformed self ⌝ }
+    {
+        match self {
+            Shape::Malformed => true,
+            Shape::Short(_) => false,
+            Shape::Long(_) => false,
+        }
+    }
+
+    // N, the number of data bytes.
+    pub fn data_bytes(self) -> usize
+        ensures { λ r. ⌜ r ≡ dataBytes self ⌝ }
+    {
+        match self {
+            Shape::Malformed => 0,
+            Shape::Short(count) => 256 - (count as usize),
+            Shape::Long(count) => 512 - (count as usize),
+        }
+    }
+
+    // The page offset of the first data byte.
+    pub fn data_at(self) -> usize
+        ensures { λ r. ⌜ r ≡ dataAt self ⌝ }
+    {
+        match self {
+            Shape::Malformed => 0,
+            Shape::Short(count) => count as usize,
+            Shape::Long(count) => count as usize,
+        }
+    }
+
+    // SID, DID and the COUNT byte or bytes.
+    pub fn head_bytes(self) -> usize
+        ensures { λ r. ⌜ r ≡ headBytes self ⌝ }
+    {
+        match self {
+            Shape::Malformed => 0,
+            Shape::Short(_) => 3,
+            Shape::Long(_) => 4,
+        }
+    }
+
+    pub fn page_bytes(self) -> usize
+        ensures { λ r. ⌜ r ≡ pageBytes self ⌝ }
+    {
+        match self {
+            Shape::Malformed => 0,
+            Shape::Short(_) => 256,
+            Shape::Long(_) => 512,
+        }
+    }
+}
+
+// Where a page stands in the row.
+fn page_at(page: usize) -> usize
+    requires { ⌜ page < 4 ⌝ }
+    ensures { λ r. ⌜ r ≡ pageAt page ⌝ }
+{
+    REGISTERS + 256 * page
+}
+
+pub fn page_shape(row: &[u8], page: usize) -> Shape
+    requires { ⌜ length (now row) ≡ rowBytes ⌝ }
+    requires { ⌜ page < 4 ⌝ }
+    ensures { λ r. ⌜ r ≡ pageShape (now (row .entry)) page ⌝ }
+{
+    let at = page_at(page);
+    let g = load(row);
+    shape_of(row[at + 2], row[at + 3], (g.long == 1) & (page & 1 == 0))
+}
+
+// The data of a page: that stretch of the row itself, of length 0 where the call below gives a number.
+pub fn page_data(row: &[u8], page: usize) -> &[u8]
+    requires { ⌜ length (now row) ≡ rowBytes ⌝ }
+    ensures { λ r. ⌜ now r ≡ pageData (now (row .entry)) page ⌝ }
+{
+    if 3 < page {
+        return &row[0..0];
+    }
+    let shape = page_shape(row, page);
+    let from = page_at(page) + shape.data_at();
+    let to = from + shape.data_bytes();
+    &row[from..to]
+}
+
+// The number that belongs to the reader's answer.
+pub fn data_number(row: &[u8], page: usize) -> u8
+    requires { ⌜ length (now row) ≡ rowBytes ⌝ }
+    ensures { λ r. ⌜ r ≡ dataNumber (now (row .entry)) page ⌝ }
+{
+    let mut cases = Cases::none();
+    if 3 < page {
+        cases.value = true;
+        return cases.number();
+    }
+    cases.value = page_shape(row, page).malformed();
+    cases.number()
+}
+
+// The packet of a page is read out of the row.
+pub fn packet_at(row: &[u8], page: usize) -> Packet
+    requires { ⌜ length (now row) ≡ rowBytes ⌝ }
+    requires { ⌜ page < 4 ⌝ }
+    ensures { λ r. ⌜ r ≡ packetAt (now (row .entry)) page ⌝ }
+{
+    let shape = page_shape(row, page);
+    let size = shape.page_bytes();
+    let at = page_at(page);
+    let mut bytes = [0u8; 512];
+    bytes::copy(&row[at..at + size], &mut bytes[0..size]);
+    Packet { shape, bytes }
+}
+
+// A packet is stored at the same offsets of a page; the gap between its head and its data is untouched.
+pub fn store_packet(row: &mut [u8], page: usize, packet: Packet)
+    requires { ⌜ length (now row) ≡ rowBytes ⌝ }
+    requires { ⌜ pageAt page + pageBytes (packet .shape) ≤ rowBytes ⌝ }
+    ensures { λ _. ⌜ now (row .exit) ≡ stored (now (row .entry)) page packet ⌝ }
+{
+    let shape = packet.shape;
+    let bytes = packet.bytes;
+    let at = REGISTERS + 256 * page;
+    let head = shape.head_bytes();
+    bytes::copy(&bytes[0..head], &mut row[at..at + head]);
+    let from = shape.data_at();
+    let to = from + shape.data_bytes();
+    bytes::copy(&bytes[from..to], &mut row[at + from..at + to]);
+}
+
+// The row's own ID is written at byte 0 of a page that is to be sent.
+pub fn stamp(row: &mut [u8], page: usize)
+    requires { ⌜ length (now row) ≡ rowBytes ⌝ }
+    requires { ⌜ page < 4 ⌝ }
+    ensures { λ _. ⌜ now (row .exit) ≡ stamped (now (row .entry)) page ⌝ }
+{
+    let g = load(row);
+    let at = page_at(page);
+    row[at] = g.id;
+}
