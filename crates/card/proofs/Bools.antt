@@ -1,8 +1,13 @@
--- What `&&`, `||` and `pick` say of their parts.
+-- What `&&`, `||` and a list of tests say of their parts.
 -- Assumes nothing.
 use mathlib.Core.Path.{_≡_, refl}
 use mathlib.Core.Bool.{Bool, true, false, _&&_, _||_}
+use mathlib.Core.List.{List, [], _∷_}
 use mathlib.Core.Logic.{_⊎_, inl, inr}
+use Prim.Native.Nat.{ℕ, zero, suc, _<_}
+use native.Mathlib.Omega.{arith}
+use lib.ListN.{length, getD}
+use Rattle.card.specs.Words.{pick, all, allAfter}
 
 pub cases : (a : Bool) → (a ≡ true) ⊎ (a ≡ false)
 cases true = inl refl
@@ -15,3 +20,37 @@ and-left false b h = h
 pub and-right : (a b : Bool) → (a && b) ≡ true → b ≡ true
 and-right true b h = h
 and-right false b h = cc
+
+pub or-true : (a : Bool) → (a || true) ≡ true
+or-true true = refl
+or-true false = refl
+
+pub or-left : (a b : Bool) → (a || b) ≡ false → a ≡ false
+or-left true b h = h
+or-left false b h = refl
+
+pub or-right : (a b : Bool) → (a || b) ≡ false → b ≡ false
+or-right true b h = cc
+or-right false b h = h
+
+-- every test of a list that holds whole
+abbrev Each : List Bool → Type 0
+Each l = (i : ℕ) → i < length l → getD l i true ≡ true
+
+each-more : (c : Bool) (l : List Bool) → c ≡ true → Each l → Each (c ∷ l)
+each-more c l e h zero p = e
+each-more c l e h (suc i) p = h i (omega arith)
+
+holds-after : (l : List Bool) (b : Bool) → allAfter b l ≡ true → (b ≡ true) × Each l
+holds-after [] b h = (h, λ i p. refl)
+holds-after (c ∷ l) b h =
+    let t = holds-after l (b && c) h in
+    (and-left b c (t .0), each-more c l (and-right b c (t .0)) (t .1))
+
+pub holds : (l : List Bool) → all l ≡ true → (i : ℕ) → i < length l → getD l i true ≡ true
+holds l h = holds-after l true h .1
+
+-- what holds of both choices holds of the choice
+pub pick-of : {A : Type 0} (P : A → Type 0) {x y : A} (b : Bool) → (b ≡ true → P x) → (b ≡ false → P y) → P (pick b x y)
+pick-of P true p q = p refl
+pick-of P false p q = q refl

@@ -2,6 +2,12 @@ pub mod Bools
 pub mod Table
 pub mod Masks
 pub mod Legal
+pub mod Rows
+pub mod Fits
+pub mod Keeps
+pub mod Order
+pub mod Calls
+pub mod LineKeeps
 pub mod Zeros
 pub mod Accesses
 pub mod Laid

@@ -69,4 +69,5 @@ module _ (f m x : ℕ) where
   raise-sets h =
       let s = or-add-and (bitAnd x f) (bitAnd m f) in
       let l = and-le-l (bitAnd x f) (bitAnd m f) in
-      ne-eqb _ _ (λ e. omega (arith, s, l, sym (and-or x m f) ∙ e))
+      let p : 0 < bitAnd (bitOr x m) f = rw (and-or x m f) (omega arith) in
+      ne-eqb (bitAnd (bitOr x m) f) 0 (λ e. omega arith)

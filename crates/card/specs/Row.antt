@@ -81,8 +81,8 @@ abbrev pub agree : Regs → List Bool
 agree g =
     (clear TA (g .status) || eqb (g .transmit) 0) ∷ (clear RI (g .status) || eqb (g .receive) 0)
     ∷ (clear TMA (g .status) || has TA (g .status))
-    ∷ (eqb (g .long) 0 || has TA (g .status) || clear 1 (g .transmit))
-    ∷ (eqb (g .long) 0 || has RI (g .status) || clear 1 (g .receive)) ∷ []
+    ∷ (not (eqb (g .long) 1) || has TA (g .status) || clear 1 (g .transmit))
+    ∷ (not (eqb (g .long) 1) || has RI (g .status) || clear 1 (g .receive)) ∷ []
 
 unfoldable pub fit : Regs → Bool
 fit g = all (named g ++ agree g)

@@ -131,7 +131,7 @@ impl Regs {
     pub fn fit(self) -> bool
         ensures { λ r. ⌜ r ≡ fit self ⌝ }
     {
-        let short = self.long == 0;
+        let short = self.long != 1;
         let ta = self.status & TA != 0;
         let ri = self.status & RI != 0;
         (self.status & !STATUS == 0)
