@@ -4,7 +4,7 @@ use mathlib.Core.Path.{_≡_, refl}
 use mathlib.Core.Bool.{Bool, true, false, not, _&&_, _||_}
 use Prim.Native.Nat.{ℕ, _+_, _-_, _/_, _%_, _<_}
 use native.Mathlib.Omega.{arith}
-use borrow.Author.Tests.{eq-eqb, eqb-false, ltb-false, not-false}
+use borrow.Author.Tests.{eq-eqb, eqb-true, eqb-false, not-false}
 use lib.Bits.{bitAnd}
 use lib.Dec.{eqb, ltb, lit<}
 use lib.ListN.{getD}
@@ -127,21 +127,12 @@ module _ (g : Regs) (f : Fit g) where
     unfolding writeCases
     good = five unnamed-mask no-command unnamed-mode unnamed-configuration unnamed-setup (none 3 (lit< tt))
 
-    known : (ltb 7 k ≡ false) × (eqb k 5 ≡ false) × ((eqb k 7 && eqb (sub g) 3) ≡ false)
+    known : (eqb k 7 && eqb (sub g) 3) ≡ false
     unfolding writeCases
-    known =
-        let t : (ltb 7 k || eqb k 5 || (eqb k 7 && eqb (sub g) 3)) ≡ false = none 2 (lit< tt) in
-        let l = or-left (ltb 7 k || eqb k 5) (eqb k 7 && eqb (sub g) 3) t in
-        (or-left (ltb 7 k) (eqb k 5) l, or-right (ltb 7 k) (eqb k 5) l, or-right (ltb 7 k || eqb k 5) (eqb k 7 && eqb (sub g) 3) t)
+    known = or-right (ltb 7 k || eqb k 5) (eqb k 7 && eqb (sub g) 3) (none 2 (lit< tt))
 
     at-seven : k ≡ 7 → Fit (seventhWritten g v)
-    at-seven i = keep-seventh v (rw (eq-eqb _ _ i) at (known .2)) (rw (eq-eqb _ _ i) at (good .4))
-
-    above-three : eqb k 0 ≡ false → eqb k 1 ≡ false → eqb k 2 ≡ false → eqb k 3 ≡ false → 3 < k
-    above-three n0 n1 n2 n3 = omega (arith, eqb-false k 0 n0, eqb-false k 1 n1, eqb-false k 2 n2, eqb-false k 3 n3)
-
-    last : 3 < k → eqb k 4 ≡ false → eqb k 6 ≡ false → k ≡ 7
-    last h n4 n6 = omega (arith, ltb-false 7 k (known .0), eqb-false k 4 n4, eqb-false k 5 (known .1), eqb-false k 6 n6)
+    at-seven i = keep-seventh v (rw (eq-eqb _ _ i) at known) (rw (eq-eqb _ _ i) at (good .4))
 
     pub keep-write : Fit (afterWrite g k v)
     unfolding afterWrite writeCases
@@ -152,7 +143,7 @@ module _ (g : Regs) (f : Fit g) where
         (λ n2. pick-of Fit (eqb k 3) (λ i. keeps.keep-pointer g f (g .mode % 4) v (keeps.low2 LOW2 refl refl refl refl (g .mode % 4) (omega arith)))
         (λ n3. pick-of Fit (eqb k 4) (λ i. keep-stepped)
         (λ n4. pick-of Fit (eqb k 6) (λ i. keep-configured v (not-false _ (rw i at (good .3))))
-        (λ n6. at-seven (last (above-three n0 n1 n2 n3) n4 n6)))))))
+        (λ n6. pick-of Fit (eqb k 7) (λ i. at-seven (eqb-true _ _ i)) (λ n7. f)))))))
 
 pub fit-reset : fit hardwareReset ≡ true
 unfolding hardwareReset fit

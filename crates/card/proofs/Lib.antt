@@ -14,3 +14,6 @@ pub mod Laid
 pub mod Sizes
 pub mod Carried
 pub mod Pages
+pub mod Stays
+pub mod Kept
+pub mod Traffic

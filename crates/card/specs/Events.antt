@@ -1,9 +1,11 @@
 -- Document 01, "One line step": what the line does to one card's registers, and what it asks of them.
 -- Assumes nothing.
-use mathlib.Core.Bool.{Bool, not, _&&_}
+use mathlib.Core.Bool.{Bool, true, false, not, _&&_}
 use Prim.Native.Nat.{ℕ, _+_, _%_}
 use lib.Dec.{eqb}
 use Rattle.card.specs.declared.regs.Regs.{Regs}
+use Rattle.card.specs.declared.packets.Shape.{Shape}
+use Rattle.card.specs.declared.packets.Shape.the-variants.{Malformed, Short, Long}
 use Rattle.card.specs.Words.{pick, clear, has, raise, raiseIf, lower}
 use Rattle.card.specs.Flags.{RI, RECON, TMA, TA, MYRECON, DUPID, RCVACT, TOKEN, TENTID, CANCEL, BROADCASTS}
 use Rattle.card.specs.Fields.{with-status, with-diagnostic, with-nid, with-transmit, with-receive}
@@ -67,3 +69,9 @@ transmitPage g = g .transmit % 4
 
 unfoldable pub receivePage : Regs → ℕ
 receivePage g = g .receive % 4
+
+-- "A long packet at a row with long packets 0 .. stores nothing there"
+unfoldable pub storable : Regs → Shape → Bool
+storable g Malformed = false
+storable g (Short c) = true
+storable g (Long c) = eqb (g .long) 1

@@ -42,7 +42,8 @@ readValue g m k =
     (pick (eqb k 2) (bitOr (bitAnd (g .mode) (RDDATA + AUTO-INC)) (g .high % 4))
     (pick (eqb k 3) (g .low)
     (pick (eqb k 4) m
-    (pick (eqb k 6) (g .configuration) (seventh g))))))
+    (pick (eqb k 6) (g .configuration)
+    (pick (eqb k 7) (seventh g) 0))))))
 
 -- "1 .. and then zeroes it"; 4 moves the pointer
 unfoldable pub afterRead : Regs → ℕ → Regs
@@ -91,6 +92,10 @@ commanded g (EnableReceive p b) = with-status (lower RI (g .status)) (with-recei
 commanded g (LongPackets l) = with-long l g
 commanded g (ClearFlags p r) = with-status (lower (pick p POR 0) (lower (pick r RECON 0) (g .status))) g
 
+-- a write of the node ID
+unfoldable pub writesId : Regs → ℕ → Bool
+writesId g k = eqb k 7 && eqb (sub g) 1
+
 -- "7 by sub-address"
 unfoldable pub seventhWritten : Regs → ℕ → Regs
 seventhWritten g v = pick (eqb (sub g) 0) (with-tentative v g) (pick (eqb (sub g) 1) (with-id v g) (with-setup v g))
@@ -104,4 +109,5 @@ afterWrite g k v =
     (pick (eqb k 2) (with-mode v g)
     (pick (eqb k 3) (with-high (g .mode % 4) (with-low v g))
     (pick (eqb k 4) (stepped g)
-    (pick (eqb k 6) (configured g v) (seventhWritten g v))))))
+    (pick (eqb k 6) (configured g v)
+    (pick (eqb k 7) (seventhWritten g v) g))))))

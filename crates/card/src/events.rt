@@ -1,7 +1,8 @@
 // Document 01, "One line step": what the line does to one card's registers, and what it asks of them.
 ghost use mathlib.Core.Path.{_≡_};
-ghost use Rattle.card.specs.Events.{burst, recovered, heard, answered, risenNid, transmitCancelled, receiveCancelled, cancelled, sent, received, transmitting, receiving, takesBroadcasts, transmitPage, receivePage};
+ghost use Rattle.card.specs.Events.{burst, recovered, heard, answered, risenNid, transmitCancelled, receiveCancelled, cancelled, sent, received, transmitting, receiving, takesBroadcasts, transmitPage, receivePage, storable};
 use crate::numbers::choose;
+use crate::packets::Shape;
 use crate::regs::BROADCASTS;
 use crate::regs::CANCEL;
 use crate::regs::DUPID;
@@ -150,5 +151,16 @@ impl Regs {
         ensures { λ r. ⌜ r ≡ receivePage self ⌝ }
     {
         (self.receive % 4) as usize
+    }
+
+    // Whether a packet of this shape can be stored here at all.
+    pub fn storable(self, shape: Shape) -> bool
+        ensures { λ r. ⌜ r ≡ storable self shape ⌝ }
+    {
+        match shape {
+            Shape::Malformed => false,
+            Shape::Short(_) => true,
+            Shape::Long(_) => self.long == 1,
+        }
     }
 }

@@ -2,7 +2,7 @@
 ghost use mathlib.Core.Path.{_≡_};
 ghost use Prim.Native.Nat.{_<_};
 ghost use Rattle.card.specs.Row.{awake, onLine, fit};
-ghost use Rattle.card.specs.Registers.{pointer, stepped, seventh, readValue, afterRead, hardwareReset, configured, interrupt, commanded, seventhWritten, afterWrite};
+ghost use Rattle.card.specs.Registers.{pointer, stepped, seventh, readValue, afterRead, hardwareReset, configured, interrupt, commanded, writesId, seventhWritten, afterWrite};
 ghost use Rattle.card.specs.Refusals.{noRegister, badValue, busy, oddPage, readCases, writeCases};
 use crate::commands::Command;
 use crate::commands::decode;
@@ -194,7 +194,8 @@ impl Regs {
             3 => self.low,
             4 => ram,
             6 => self.configuration,
-            _ => self.seventh(),
+            7 => self.seventh(),
+            _ => 0,
         }
     }
 
@@ -266,6 +267,13 @@ impl Regs {
         }
     }
 
+    // The register is the node ID.
+    pub fn writes_id(self, register: usize) -> bool
+        ensures { λ r. ⌜ r ≡ writesId self register ⌝ }
+    {
+        (register == 7) & (self.configuration % 4 == 1)
+    }
+
     fn seventh_written(self, value: u8) -> Regs
         ensures { λ r. ⌜ r ≡ seventhWritten self value ⌝ }
     {
@@ -305,7 +313,8 @@ impl Regs {
             }
             4 => self.stepped(),
             6 => self.configured(value),
-            _ => self.seventh_written(value),
+            7 => self.seventh_written(value),
+            _ => g,
         }
     }
 

@@ -31,12 +31,17 @@ returns-6 c = simp (c .configured .ensures, c .before .match .keys6)
 
 returns-7 : tie.Need-returns-7
 unfolding afterWrite
-returns-7 c =
-    let r = c .before .match .rest in
-    simp (c .seventh-written .ensures, ne-eqb _ _ (r .1), ne-eqb _ _ (r .0 .1), ne-eqb _ _ (r .0 .0 .1), ne-eqb _ _ (r .0 .0 .0 .1), ne-eqb _ _ (r .0 .0 .0 .0 .1), ne-eqb _ _ (r .0 .0 .0 .0 .0 .1))
+returns-7 c = simp (c .seventh-written .ensures, c .before .match .keys7)
+
+returns-8 : tie.Need-returns-8
+unfolding afterWrite
+returns-8 c =
+    let r = c .match .rest in
+    simp (ne-eqb _ _ (r .1), ne-eqb _ _ (r .0 .1), ne-eqb _ _ (r .0 .0 .1), ne-eqb _ _ (r .0 .0 .0 .1), ne-eqb _ _ (r .0 .0 .0 .0 .1), ne-eqb _ _ (r .0 .0 .0 .0 .0 .1), ne-eqb _ _ (r .0 .0 .0 .0 .0 .0 .1))
 
 pub after-write-spec : {M : Type 1} → statement M
 after-write-spec =
     tie.close
     (tie.spec (λ c κs. search needs) (λ c κs. search needs) (λ c κs. search needs) (λ c κs. search needs)
-    (λ c κs. search needs) returns returns-2 returns-3 returns-4 returns-5 returns-6 returns-7)
+    (λ c κs. search needs) returns returns-2 returns-3 returns-4 returns-5 returns-6 returns-7
+    returns-8)

@@ -31,11 +31,16 @@ returns-6 c = simp (c .match .keys6)
 
 returns-7 : tie.Need-returns-7
 unfolding readValue
-returns-7 c =
-    let r = c .before .match .rest in
-    simp (c .seventh .ensures, ne-eqb _ _ (r .1), ne-eqb _ _ (r .0 .1), ne-eqb _ _ (r .0 .0 .1), ne-eqb _ _ (r .0 .0 .0 .1), ne-eqb _ _ (r .0 .0 .0 .0 .1), ne-eqb _ _ (r .0 .0 .0 .0 .0 .1))
+returns-7 c = simp (c .seventh .ensures, c .before .match .keys7)
+
+returns-8 : tie.Need-returns-8
+unfolding readValue
+returns-8 c =
+    let r = c .match .rest in
+    simp (ne-eqb _ _ (r .1), ne-eqb _ _ (r .0 .1), ne-eqb _ _ (r .0 .0 .1), ne-eqb _ _ (r .0 .0 .0 .1), ne-eqb _ _ (r .0 .0 .0 .0 .1), ne-eqb _ _ (r .0 .0 .0 .0 .0 .1), ne-eqb _ _ (r .0 .0 .0 .0 .0 .0 .1))
 
 pub read-value-spec : {M : Type 1} → statement M
 read-value-spec =
     tie.close
-    (tie.spec (λ c κs. search needs) returns returns-2 returns-3 returns-4 returns-5 returns-6 returns-7)
+    (tie.spec (λ c κs. search needs) returns returns-2 returns-3 returns-4 returns-5 returns-6 returns-7
+    returns-8)

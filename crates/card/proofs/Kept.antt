@@ -1,0 +1,160 @@
+-- What each call and each event leaves alone, and what it changes: who the card is, its configuration, and whom it invites next.
+-- Assumes nothing.
+use mathlib.Core.Path.{_≡_, refl, sym, _∙_, ap}
+use mathlib.Core.Bool.{Bool, true, false, not, _&&_}
+use Prim.Native.Nat.{ℕ, _+_, _%_}
+use borrow.Author.Tests.{eqb-true}
+use lib.Dec.{eqb}
+use Rattle.card.specs.declared.regs.Regs.{Regs}
+use Rattle.card.specs.declared.commands.Command.{Command}
+use Rattle.card.specs.declared.commands.Command.the-variants.{Illegal, DisableTransmitter, DisableReceiver, EnableTransmit, EnableReceive, LongPackets, ClearFlags}
+use Rattle.card.specs.Words.{pick, clear, has}
+use Rattle.card.specs.Flags.{AUTO-INC, RESET, CANCEL}
+use Rattle.card.specs.Fields.{with-configuration}
+use Rattle.card.specs.Row.{awake, onLine}
+use Rattle.card.specs.Commands.{commandOf}
+use Rattle.card.specs.Registers.{sub, stepped, afterRead, hardwareReset, configured, commanded, writesId, seventhWritten, afterWrite}
+use Rattle.card.specs.Events.{burst, recovered, heard, answered, risenNid, received, transmitCancelled, receiveCancelled, cancelled, sent}
+use Rattle.card.proofs.Bools.{pick-of}
+
+-- h is the card that g was, in the same configuration, with the same NID and tentative ID
+pub record Kept (g h : Regs) : Type 0 where
+  pub id : h .id ≡ g .id
+  pub configuration : h .configuration ≡ g .configuration
+  pub nid : h .nid ≡ g .nid
+  pub tentative : h .tentative ≡ g .tentative
+
+pub kept-same : (g : Regs) → Kept g g
+kept-same g = record { id = refl; configuration = refl; nid = refl; tentative = refl }
+
+pub kept-then : (g h k : Regs) → Kept g h → Kept h k → Kept g k
+kept-then g h k a b = record {
+  id = b .id ∙ a .id;
+  configuration = b .configuration ∙ a .configuration;
+  nid = b .nid ∙ a .nid;
+  tentative = b .tentative ∙ a .tentative;
+}
+
+-- who is awake and who is on line goes by the ID and the configuration alone
+module _ (g h : Regs) (i : h .id ≡ g .id) (c : h .configuration ≡ g .configuration) where
+  pub awake-same : awake h ≡ awake g
+  unfolding awake
+  awake-same = rw (i, c)
+
+  pub on-line-same : onLine h ≡ onLine g
+  unfolding onLine
+  on-line-same = rw (awake-same, c)
+
+-- ---- register accesses
+pub reset-off : onLine hardwareReset ≡ false
+unfolding onLine awake hardwareReset
+reset-off = refl
+
+module _ (g : Regs) where
+  kept-stepped : Kept g (stepped g)
+  unfolding stepped
+  kept-stepped = pick-of (Kept g) (has AUTO-INC (g .mode)) (λ _. search refl) (λ _. kept-same g)
+
+  kept-commanded : (c : Command) → Kept g (commanded g c)
+  unfolding commanded
+  kept-commanded Illegal = kept-same g
+  kept-commanded DisableTransmitter = search refl
+  kept-commanded DisableReceiver = search refl
+  kept-commanded (EnableTransmit p) = search refl
+  kept-commanded (EnableReceive p b) = search refl
+  kept-commanded (LongPackets l) = search refl
+  kept-commanded (ClearFlags p r) = search refl
+
+  pub kept-read : (k : ℕ) → Kept g (afterRead g k)
+  unfolding afterRead
+  kept-read k = pick-of (Kept g) (eqb k 1) (λ _. search refl) (λ _. pick-of (Kept g) (eqb k 4) (λ _. kept-stepped) (λ _. kept-same g))
+
+  -- a write of any register but 6 and 7
+  pub kept-write : (k v : ℕ) → eqb k 6 ≡ false → eqb k 7 ≡ false → Kept g (afterWrite g k v)
+  unfolding afterWrite
+  kept-write k v n6 n7 =
+      rw (n6, n7)
+      (pick-of (Kept g) (eqb k 0) (λ _. search refl)
+      (λ _. pick-of (Kept g) (eqb k 1) (λ _. kept-commanded (commandOf v))
+      (λ _. pick-of (Kept g) (eqb k 2) (λ _. search refl)
+      (λ _. pick-of (Kept g) (eqb k 3) (λ _. search refl)
+      (λ _. pick-of (Kept g) (eqb k 4) (λ _. kept-stepped) (λ _. kept-same g))))))
+
+  -- the configuration is what was written, and the NID and both IDs stay
+  pub record Configured (v : ℕ) (h : Regs) : Type 0 where
+    pub id : h .id ≡ g .id
+    pub configuration : h .configuration ≡ v
+    pub nid : h .nid ≡ g .nid
+    pub tentative : h .tentative ≡ g .tentative
+
+  pub write-six : (v : ℕ) → Configured v (afterWrite g 6 v)
+  unfolding afterWrite configured
+  write-six v = pick-of (λ (h : Regs). Configured v (with-configuration v h)) (clear RESET v) (λ _. search refl) (λ _. search refl)
+
+  -- register 7: the node ID changes only where it is what is written
+  pub record Seventh (h : Regs) : Type 0 where
+    pub configuration : h .configuration ≡ g .configuration
+    pub nid : h .nid ≡ g .nid
+
+  pub write-seven : (v : ℕ) → Seventh (afterWrite g 7 v)
+  unfolding afterWrite seventhWritten
+  write-seven v =
+      pick-of Seventh (eqb (sub g) 0) (λ _. search refl) (λ _. pick-of Seventh (eqb (sub g) 1) (λ _. search refl) (λ _. search refl))
+
+  pub write-id : (v : ℕ) → (afterWrite g 7 v) .id ≡ pick (writesId g 7) v (g .id)
+  unfolding afterWrite seventhWritten writesId
+  write-id v =
+      pick-of (λ (h : Regs). h .id ≡ pick (eqb (sub g) 1) v (g .id)) (eqb (sub g) 0) (λ e. rw (eqb-true (sub g) 0 e))
+      (λ _. pick-of (λ (h : Regs). h .id ≡ pick (eqb (sub g) 1) v (g .id)) (eqb (sub g) 1) (λ e. rw e) (λ n. rw n))
+
+  -- ---- what the line does
+  pub kept-burst : Kept g (burst g)
+  unfolding burst
+  kept-burst = search refl
+
+  pub kept-heard : (t : Bool) → Kept g (heard g t)
+  unfolding heard
+  kept-heard t = search refl
+
+  pub kept-answered : (n : ℕ) (t : Bool) → Kept g (answered g n t)
+  unfolding answered
+  kept-answered n t = search refl
+
+  pub kept-sent : (a : Bool) → Kept g (sent g a)
+  unfolding sent
+  kept-sent a = search refl
+
+  pub kept-received : Kept g (received g)
+  unfolding received
+  kept-received = search refl
+
+  kept-transmit : Kept g (transmitCancelled g)
+  kept-transmit = pick-of (Kept g) (clear CANCEL (g .transmit)) (λ _. kept-same g) (λ _. search refl)
+
+pub kept-cancelled : (g : Regs) → Kept g (cancelled g)
+unfolding cancelled
+kept-cancelled g =
+    let h = transmitCancelled g in
+    kept-then g h (receiveCancelled h) (kept-transmit g)
+    (pick-of (Kept h) (clear CANCEL (h .receive)) (λ _. kept-same h) (λ _. kept-received h))
+
+-- ---- the calls that do change one of the four
+pub record Recovered (g h : Regs) : Type 0 where
+  pub id : h .id ≡ g .id
+  pub configuration : h .configuration ≡ g .configuration
+  pub nid : h .nid ≡ pick (onLine g) (g .id) (g .nid)
+  pub tentative : h .tentative ≡ g .tentative
+
+pub is-recovered : (g : Regs) → Recovered g (recovered g)
+unfolding recovered
+is-recovered g = search refl
+
+pub record Risen (g h : Regs) : Type 0 where
+  pub id : h .id ≡ g .id
+  pub configuration : h .configuration ≡ g .configuration
+  pub nid : h .nid ≡ (g .nid + 1) % 256
+  pub tentative : h .tentative ≡ g .tentative
+
+pub is-risen : (g : Regs) → Risen g (risenNid g)
+unfolding risenNid
+is-risen g = search refl

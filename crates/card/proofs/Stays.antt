@@ -1,0 +1,87 @@
+-- A well-formed row stays well formed and as long, through every call on its bytes.
+-- Assumes nothing.
+use mathlib.Core.Path.{_≡_, refl, sym, _∙_, ap}
+use mathlib.Core.Bool.{Bool, true, false}
+use mathlib.Core.List.{List}
+use mathlib.Core.Logic.{inl}
+use Prim.Native.Nat.{ℕ, _+_, _*_, _%_, _≤_, _<_}
+use native.Mathlib.Omega.{arith}
+use borrow.Author.Tests.{eqb-true}
+use lib.Dec.{eqb}
+use lib.ListN.{length, getD, set, length-set}
+use lib.Seq.{getD-set-other}
+use Rattle.card.specs.declared.regs.Regs.{Regs}
+use Rattle.card.specs.declared.packets.Packet.{Packet}
+use Rattle.card.specs.Words.{pick}
+use Rattle.card.specs.Row.{registerBytes, rowBytes, regsOf, putRegs, marked, zeros, fit, wellFormed}
+use Rattle.card.specs.Registers.{pointer, afterRead, afterWrite, hardwareReset}
+use Rattle.card.specs.Refusals.{readNumber, writeNumber}
+use Rattle.card.specs.Access.{pointed, rowAfterRead, ramWritten, rowAfterWrite, rowAfterReset, freshRow}
+use Rattle.card.specs.Packets.{dataAt, pageBytes, pageAt, stored, stamped}
+use Rattle.card.proofs.Bools.{pick-of}
+use Rattle.card.proofs.Rows.{length-put, well-fit, well-same, well-put}
+use Rattle.card.proofs.Fits.{Fit, fit-rules, rules-fit}
+use Rattle.card.proofs.Accesses.{length-ram}
+use Rattle.card.proofs.Calls.{keep-read, keep-write, fit-reset}
+use Rattle.card.proofs.Pages.{stored-outside, length-stored, length-stamped}
+
+pub length-fresh : length freshRow ≡ rowBytes
+unfolding freshRow putRegs
+length-fresh = refl
+
+pub well-fresh : wellFormed freshRow ≡ true
+unfolding freshRow putRegs hardwareReset wellFormed marked fit regsOf zeros
+well-fresh = refl
+
+module _ (r : List ℕ) (l : length r ≡ rowBytes) where
+  pub length-read : (k : ℕ) → length (rowAfterRead r k) ≡ rowBytes
+  unfolding rowAfterRead
+  length-read k = pick-of (λ (x : List ℕ). length x ≡ rowBytes) (eqb (readNumber (regsOf r) k) 0) (λ _. length-put r _ ∙ l) (λ _. l)
+
+  pub length-write : (k v : ℕ) (o d : Bool) → length (rowAfterWrite r k v o d) ≡ rowBytes
+  unfolding rowAfterWrite
+  length-write k v o d =
+      pick-of (λ (x : List ℕ). length x ≡ rowBytes) (eqb (writeNumber (regsOf r) k v o d) 0)
+      (λ _. length-put (ramWritten r k (pointed r) v) _ ∙ length-ram r k (pointed r) v ∙ l) (λ _. l)
+
+  -- a byte of the RAM is written
+  pub well-set : (i v : ℕ) → registerBytes ≤ i → wellFormed (set r i v) ≡ wellFormed r
+  well-set i v h =
+      well-same r (set r i v) (length-set r i v) (omega arith) (λ j b. getD-set-other r i j v 0 (λ e. omega arith))
+
+  module _ (w : wellFormed r ≡ true) where
+    fits : Fit (regsOf r)
+    fits = fit-rules (regsOf r) (well-fit r w)
+
+    -- the row with other registers that fit, as an event leaves it
+    pub well-regs : (g : Regs) → Fit g → wellFormed (putRegs r g) ≡ true
+    well-regs g f = well-put r g (omega arith) w (rules-fit g f)
+
+    pub well-reset : wellFormed (rowAfterReset r) ≡ true
+    well-reset = well-put r hardwareReset (omega arith) w fit-reset
+
+    pub well-read : (k : ℕ) → wellFormed (rowAfterRead r k) ≡ true
+    unfolding rowAfterRead
+    well-read k =
+        pick-of (λ (x : List ℕ). wellFormed x ≡ true) (eqb (readNumber (regsOf r) k) 0)
+        (λ _. well-regs (afterRead (regsOf r) k) (keep-read (regsOf r) fits k)) (λ _. w)
+
+    ram-well : (k v : ℕ) → wellFormed (ramWritten r k (pointed r) v) ≡ true
+    ram-well k v = pick-of (λ (x : List ℕ). wellFormed x ≡ true) (eqb k 4) (λ _. well-set (pointed r) v (omega arith) ∙ w) (λ _. w)
+
+    pub well-write : (k v : ℕ) (o d : Bool) → wellFormed (rowAfterWrite r k v o d) ≡ true
+    unfolding rowAfterWrite
+    well-write k v o d =
+        pick-of (λ (x : List ℕ). wellFormed x ≡ true) (eqb (writeNumber (regsOf r) k v o d) 0)
+        (λ e. well-put (ramWritten r k (pointed r) v) (afterWrite (regsOf r) k v) (omega (arith, length-ram r k (pointed r) v)) (ram-well k v)
+        (rules-fit _ (keep-write (regsOf r) fits k v o d (eqb-true _ _ e)))) (λ _. w)
+
+    pub well-stamped : (p : ℕ) → wellFormed (stamped r p) ≡ true
+    unfolding stamped
+    well-stamped p = well-set (pageAt p) (regsOf r .id) (omega arith) ∙ w
+
+    pub well-stored : (p : ℕ) (k : Packet) → pageAt p + pageBytes (k .shape) ≤ length r → 512 ≤ length (k .bytes) → dataAt (k .shape) < 256
+        → wellFormed (stored r p k) ≡ true
+    well-stored p k f n b =
+        well-same r (stored r p k) (length-stored r p k f n b) (omega arith)
+        (λ i h. stored-outside r p k f n b i (inl (omega arith))) ∙ w

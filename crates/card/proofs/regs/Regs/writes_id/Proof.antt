@@ -1,0 +1,11 @@
+-- `card::regs::Regs::writes_id` meets its contract: the code is the definition, word for word. Assumes nothing.
+use Rattle.card.specs.Registers.{writesId}
+use borrow.Author.Needs.{needs}
+use Rattle.card.proofs.regs.Regs.writes_id.Statement.{statement}
+use Rattle.card.proofs.regs.Regs.writes_id.Tie as tie
+
+pub writes-id-spec : {M : Type 1} → statement M
+unfolding writesId
+writes-id-spec =
+    tie.close
+    (tie.spec (λ c. search needs))
