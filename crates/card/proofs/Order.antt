@@ -1,4 +1,4 @@
--- A call that is not refused meets none of the cases.
+-- The order of the cases: a call that is not refused meets none of them, and SHAPE and ROW come first.
 -- Assumes nothing.
 use mathlib.Core.Path.{_≡_, refl}
 use mathlib.Core.Bool.{Bool, true, false}
@@ -8,7 +8,7 @@ use native.Mathlib.Omega.{arith}
 use lib.ListN.{length, getD}
 use Rattle.card.specs.declared.numbers.Cases.{Cases}
 use Rattle.card.specs.Words.{pick}
-use Rattle.card.specs.Numbers.{numberOf}
+use Rattle.card.specs.Numbers.{numberOf, placed}
 
 -- the cases in the table's order: that at place i has the number i + 1
 abbrev pub tests : Cases → List Bool
@@ -29,3 +29,17 @@ none-first (false ∷ l) n e (suc i) h = none-first l (suc n) e i (omega arith)
 pub none-holds : (t : Cases) → numberOf t ≡ 0 → (i : ℕ) → i < 14 → getD (tests t) i false ≡ false
 unfolding numberOf
 none-holds t e i h = none-first (tests t) 0 e i h
+
+-- SHAPE and ROW come first, and then the card's own cases
+module _ (t : Cases) where
+  pub placed-shape : (r : Bool) → numberOf (placed true r t) ≡ 1
+  unfolding numberOf
+  placed-shape r = refl
+
+  pub placed-row : numberOf (placed false true t) ≡ 2
+  unfolding numberOf
+  placed-row = refl
+
+  pub placed-card : t .shape ≡ false → t .row ≡ false → numberOf (placed false false t) ≡ numberOf t
+  unfolding numberOf
+  placed-card s r = rw (s, r)

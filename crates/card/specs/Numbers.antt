@@ -1,6 +1,6 @@
 -- Document 01, "Numbers a caller may get": "The smallest number wins".
 -- Assumes nothing.
-use mathlib.Core.Bool.{false}
+use mathlib.Core.Bool.{Bool, false}
 use Prim.Native.Nat.{ℕ}
 use Rattle.card.specs.declared.numbers.Cases.{Cases}
 use Rattle.card.specs.Words.{pick}
@@ -41,3 +41,22 @@ numberOf t =
     (pick (t .alone) 12
     (pick (t .room) 13
     (pick (t .order) 14 0)))))))))))))
+
+-- the cases of a call to a row of a network: SHAPE and ROW beside the card's own
+abbrev pub placed : (shape row : Bool) → Cases → Cases
+placed shape row t = record {
+  shape = shape;
+  row = row;
+  register = t .register;
+  value = t .value;
+  notready = t .notready;
+  direction = t .direction;
+  busy = t .busy;
+  online = t .online;
+  page = t .page;
+  duplicate = t .duplicate;
+  holder = t .holder;
+  alone = t .alone;
+  room = t .room;
+  order = t .order;
+}

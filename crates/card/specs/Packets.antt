@@ -48,6 +48,10 @@ pageAt p = registerBytes + 256 * p
 unfoldable pub pageShape : List ℕ → ℕ → Shape
 pageShape r p = shapeOf (getD r (pageAt p + 2) 0) (getD r (pageAt p + 3) 0) (eqb (regsOf r .long) 1 && clear 1 p)
 
+-- "Byte 0 SID, 1 DID"
+unfoldable pub destination : List ℕ → ℕ → ℕ
+destination r p = getD r (pageAt p + 1) 0
+
 abbrev pub malformed : Shape → Bool
 malformed Malformed = true
 malformed (Short c) = false

@@ -3,7 +3,7 @@ ghost use mathlib.Core.Path.{_≡_};
 ghost use Prim.Native.Nat.{_+_, _*_, _≤_, _<_};
 ghost use lib.ListN.{length};
 ghost use Rattle.card.specs.Row.{rowBytes};
-ghost use Rattle.card.specs.Packets.{shapeOf, dataBytes, dataAt, headBytes, pageBytes, pageAt, malformed, pageShape, dataNumber, pageData, packetAt, stored, stamped};
+ghost use Rattle.card.specs.Packets.{shapeOf, dataBytes, dataAt, headBytes, pageBytes, pageAt, malformed, pageShape, destination, dataNumber, pageData, packetAt, stored, stamped};
 use crate::numbers::Cases;
 use crate::row::REGISTERS;
 use crate::row::load;
@@ -105,6 +105,16 @@ pub fn page_shape(row: &[u8], page: usize) -> Shape
     let at = page_at(page);
     let g = load(row);
     shape_of(row[at + 2], row[at + 3], (g.long == 1) & (page & 1 == 0))
+}
+
+// The DID byte of a page.
+pub fn destination(row: &[u8], page: usize) -> u8
+    requires { ⌜ length (now row) ≡ rowBytes ⌝ }
+    requires { ⌜ page < 4 ⌝ }
+    ensures { λ r. ⌜ r ≡ destination (now (row .entry)) page ⌝ }
+{
+    let at = page_at(page);
+    row[at + 1]
 }
 
 // The data of a page: that stretch of the row itself, of length 0 where the call below gives a number.

@@ -1,0 +1,14 @@
+-- `card::packets::destination` meets its contract. Assumes nothing.
+use Rattle.card.specs.Packets.{destination}
+use borrow.Author.Needs.{needs}
+use Rattle.card.proofs.packets.destination.Statement.{statement}
+use Rattle.card.proofs.packets.destination.Tie as tie
+
+returns : tie.Need-returns
+unfolding destination
+returns c = simp (c .before .page-at .ensures)
+
+pub destination-spec : {M : Type 1} → statement M
+destination-spec =
+    tie.close
+    (tie.spec (λ c κs. search needs) (λ c. search needs) (λ c. search needs) returns)
