@@ -2,7 +2,7 @@
 -- Assumes nothing.
 use mathlib.Core.Path.{_≡_, refl}
 use mathlib.Core.Bool.{Bool, true, false, not, _&&_, _||_}
-use Prim.Native.Nat.{ℕ, _+_, _-_, _/_, _%_, _<_}
+use Prim.Native.Nat.{ℕ, _-_, _/_, _%_, _<_}
 use native.Mathlib.Omega.{arith}
 use borrow.Author.Tests.{eq-eqb, eqb-true, eqb-false, not-false}
 use lib.Bits.{bitAnd}
@@ -17,11 +17,11 @@ use Rattle.card.specs.Fields.{with-status, with-configuration}
 use Rattle.card.specs.Row.{fit}
 use Rattle.card.specs.Commands.{pageOf, commandOf}
 use Rattle.card.specs.Registers.{sub, risen, stepped, afterRead, hardwareReset, configured, commanded, seventhWritten, afterWrite}
-use Rattle.card.specs.Refusals.{noRegister, illegal, badValue, busy, oddPage, writeCases, writeNumber}
+use Rattle.card.specs.Refusals.{illegal, busy, oddPage, writeCases, writeNumber}
 use Rattle.card.proofs.Bools.{or-left, or-right, pick-of}
 use Rattle.card.proofs.Table.{by-table}
 use Rattle.card.proofs.Order.{tests, none-holds}
-use Rattle.card.proofs.Fits.{Fit, rules-fit}
+use Rattle.card.proofs.Fits.{Fit}
 use Rattle.card.proofs.Keeps as keeps
 
 -- the page and the flag of a decoded command are small

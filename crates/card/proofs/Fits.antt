@@ -1,9 +1,8 @@
 -- Registers that fit: the rules one by one, by name.
 -- Assumes nothing.
-use mathlib.Core.Path.{_≡_, refl, sym, _∙_, ap}
-use mathlib.Core.Bool.{Bool, true, false, not, _||_}
+use mathlib.Core.Path.{_≡_}
+use mathlib.Core.Bool.{true, not, _||_}
 use mathlib.Core.List.{_++_}
-use Prim.Native.Nat.{ℕ}
 use lib.Dec.{eqb, lit<}
 use Rattle.card.specs.declared.regs.Regs.{Regs}
 use Rattle.card.specs.Words.{clear, has}

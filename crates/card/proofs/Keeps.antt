@@ -1,18 +1,17 @@
 -- Registers that fit stay so when a byte is written: byte by byte, and for each command, reset and event.
 -- Assumes nothing.
-use mathlib.Core.Path.{_≡_, refl, sym, _∙_, ap}
+use mathlib.Core.Path.{_≡_, refl, _∙_}
 use mathlib.Core.Bool.{Bool, true, false, not, _&&_, _||_}
-use Prim.Native.Nat.{ℕ, _+_, _-_, _/_, _%_, _<_}
-use native.Mathlib.Omega.{arith}
+use Prim.Native.Nat.{ℕ, _+_, _-_, _<_}
 use lib.Bits.{bitAnd}
-use lib.Dec.{eqb, lit<}
+use lib.Dec.{eqb}
 use Rattle.card.specs.declared.regs.Regs.{Regs}
-use Rattle.card.specs.Words.{pick, clear, has, raise, raiseIf, lower}
-use Rattle.card.specs.Flags.{RI, POR, RECON, TMA, TA, CANCEL, BROADCASTS, LOW2, only, statusBits, diagnosticBits, maskBits, configurationBits, setupBits, modeBits, transmitBits, receiveBits}
+use Rattle.card.specs.Words.{pick, clear, has, raise, lower}
+use Rattle.card.specs.Flags.{RI, TMA, TA, CANCEL, BROADCASTS, LOW2, only, statusBits, diagnosticBits, maskBits, configurationBits, setupBits, modeBits, transmitBits, receiveBits}
 use Rattle.card.specs.Fields.{with-id, with-status, with-diagnostic, with-mask, with-configuration, with-setup, with-tentative, with-nid, with-high, with-low, with-mode, with-transmit, with-receive, with-long}
 use Rattle.card.proofs.Bools.{or-true}
 use Rattle.card.proofs.Table.{by-table}
-use Rattle.card.proofs.Masks.{lower-other, lower-clears, raise-other, raise-sets}
+use Rattle.card.proofs.Masks.{lower-other, lower-clears, raise-other}
 use Rattle.card.proofs.Fits.{Fit}
 
 -- the bits 1-0 alone are within any byte that has them

@@ -10,7 +10,7 @@ use Rattle.card.specs.Words.{pick, clear, raise, raiseIf, lower}
 use Rattle.card.specs.Flags.{RI, RECON, TMA, TA, MYRECON, DUPID, RCVACT, TOKEN, TENTID, CANCEL, only, statusBits, diagnosticBits}
 use Rattle.card.specs.Fields.{with-status, with-nid, with-transmit}
 use Rattle.card.specs.Row.{awake, onLine}
-use Rattle.card.specs.Events.{burst, recovered, heard, answered, risenNid, received, transmitCancelled, receiveCancelled, cancelled, sent}
+use Rattle.card.specs.Events.{burst, recovered, heard, answered, risenNid, received, transmitCancelled, cancelled, sent}
 use Rattle.card.proofs.Bools.{pick-of}
 use Rattle.card.proofs.Masks.{lower-other, raise-other, raise-sets}
 use Rattle.card.proofs.Fits.{Fit}

@@ -1,16 +1,16 @@
 -- A row's bytes and its registers: what writing the registers changes, and what it leaves.
 -- Assumes nothing.
 use mathlib.Core.Path.{_≡_, refl, sym, _∙_, ap}
-use mathlib.Core.Bool.{Bool, true, false, _&&_}
+use mathlib.Core.Bool.{true, _&&_}
 use mathlib.Core.List.{List, [], _∷_}
 use Prim.Native.Nat.{ℕ, zero, suc, _+_, _-_, _≤_, _<_}
 use native.Mathlib.Nat.{not-suc-le-zero, add-zero}
 use native.Mathlib.Omega.{arith}
-use lib.Dec.{lit<, eqb}
-use lib.ListN.{length, getD, set, take, drop, length-set, length-drop}
+use lib.Dec.{lit<}
+use lib.ListN.{length, getD, set, drop, length-set, length-drop}
 use lib.Seq.{sets, length-sets, set-getD, getD-set-other, getD-set-same, getD-take, getD-drop, ext-getD, length-take-le}
 use Rattle.card.specs.declared.regs.Regs.{Regs}
-use Rattle.card.specs.Row.{registerBytes, rowBytes, regsOf, bytesOf, putRegs, spare, zeros, marked, fit, wellFormed}
+use Rattle.card.specs.Row.{registerBytes, regsOf, bytesOf, putRegs, spare, zeros, marked, fit, wellFormed}
 use Rattle.card.proofs.Bools.{and-left, and-right}
 
 -- ---- a run of stores: below it, above it, and in it

@@ -1,17 +1,16 @@
 -- Document 01, "Registers": what reading and writing give, the resets, the commands' effects and the interrupt.
 -- Assumes nothing.
-use mathlib.Core.Bool.{Bool, true, false, not, _&&_, _||_}
+use mathlib.Core.Bool.{Bool, _&&_, _||_}
 use Prim.Native.Nat.{ℕ, _+_, _*_, _/_, _%_}
 use lib.Bits.{bitAnd, bitOr}
-use lib.Dec.{eqb, ltb}
+use lib.Dec.{eqb}
 use Rattle.card.specs.declared.regs.Regs.{Regs}
 use Rattle.card.specs.declared.commands.Command.{Command}
 use Rattle.card.specs.declared.commands.Command.the-variants.{Illegal, DisableTransmitter, DisableReceiver, EnableTransmit, EnableReceive, LongPackets, ClearFlags}
-use Rattle.card.specs.declared.numbers.Cases.{Cases}
 use Rattle.card.specs.Words.{pick, clear, has, raise, lower}
-use Rattle.card.specs.Flags.{RI, POR, RECON, TMA, TA, RESET, RDDATA, AUTO-INC, CANCEL, BROADCASTS, only, maskBits, configurationBits, setupBits, modeBits}
+use Rattle.card.specs.Flags.{RI, POR, RECON, TMA, TA, RESET, RDDATA, AUTO-INC, CANCEL, BROADCASTS}
 use Rattle.card.specs.Fields.{with-id, with-status, with-diagnostic, with-mask, with-configuration, with-setup, with-tentative, with-high, with-low, with-mode, with-transmit, with-receive, with-long}
-use Rattle.card.specs.Row.{ramBytes, awake}
+use Rattle.card.specs.Row.{ramBytes}
 use Rattle.card.specs.Commands.{commandOf}
 
 -- "sub-address 1-0"
