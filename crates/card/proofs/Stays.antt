@@ -19,7 +19,7 @@ use Rattle.card.specs.Refusals.{readNumber, writeNumber}
 use Rattle.card.specs.Access.{pointed, rowAfterRead, ramWritten, rowAfterWrite, rowAfterReset, freshRow}
 use Rattle.card.specs.Packets.{dataAt, pageBytes, pageAt, stored, stamped}
 use Rattle.card.proofs.Bools.{pick-of}
-use Rattle.card.proofs.Rows.{length-put, well-fit, well-same, well-put}
+use Rattle.card.proofs.Rows.{regs-same, length-put, well-fit, well-same, well-put}
 use Rattle.card.proofs.Fits.{Fit, fit-rules, rules-fit}
 use Rattle.card.proofs.Accesses.{length-ram}
 use Rattle.card.proofs.Calls.{keep-read, keep-write, fit-reset}
@@ -48,6 +48,15 @@ module _ (r : List ℕ) (l : length r ≡ rowBytes) where
   pub well-set : (i v : ℕ) → registerBytes ≤ i → wellFormed (set r i v) ≡ wellFormed r
   well-set i v h =
       well-same r (set r i v) (length-set r i v) (omega arith) (λ j b. getD-set-other r i j v 0 (λ e. omega arith))
+
+  -- a page that is stamped or stored in leaves the registers
+  pub regs-stamped : (p : ℕ) → regsOf (stamped r p) ≡ regsOf r
+  unfolding stamped
+  regs-stamped p = regs-same r _ (λ j b. getD-set-other r (pageAt p) j (regsOf r .id) 0 (λ e. omega arith))
+
+  pub regs-stored : (p : ℕ) (k : Packet) → pageAt p + pageBytes (k .shape) ≤ length r → 512 ≤ length (k .bytes) → dataAt (k .shape) < 256
+      → regsOf (stored r p k) ≡ regsOf r
+  regs-stored p k f n b = regs-same r (stored r p k) (λ j h. stored-outside r p k f n b j (inl (omega arith)))
 
   module _ (w : wellFormed r ≡ true) where
     fits : Fit (regsOf r)
