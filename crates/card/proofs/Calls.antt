@@ -148,3 +148,8 @@ module _ (g : Regs) (f : Fit g) where
 pub fit-reset : fit hardwareReset ≡ true
 unfolding hardwareReset fit
 fit-reset = refl
+
+-- a write that is not refused puts no second row on one ID
+pub write-single : (g : Regs) (k v : ℕ) (o d : Bool) → writeNumber g k v o d ≡ 0 → d ≡ false
+unfolding writeCases
+write-single g k v o d e = none-holds (writeCases g k v o d) e 9 (lit< tt)

@@ -8,7 +8,7 @@ use native.Mathlib.Omega.{arith}
 use lib.ListN.{length, getD}
 use Rattle.card.specs.declared.numbers.Cases.{Cases}
 use Rattle.card.specs.Words.{pick}
-use Rattle.card.specs.Numbers.{numberOf, placed}
+use Rattle.card.specs.Numbers.{none, numberOf, placed}
 
 -- the cases in the table's order: that at place i has the number i + 1
 abbrev pub tests : Cases → List Bool
@@ -43,3 +43,12 @@ module _ (t : Cases) where
   pub placed-card : t .shape ≡ false → t .row ≡ false → numberOf (placed false false t) ≡ numberOf t
   unfolding numberOf
   placed-card s r = rw (s, r)
+
+-- DONE where no case holds; VALUE where it holds and none before it does
+pub number-none : numberOf none ≡ 0
+unfolding numberOf
+number-none = refl
+
+pub number-value : (t : Cases) → t .shape ≡ false → t .row ≡ false → t .register ≡ false → t .value ≡ true → numberOf t ≡ 4
+unfolding numberOf
+number-value t s r g v = rw (s, r, g, v)

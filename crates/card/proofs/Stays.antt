@@ -13,7 +13,7 @@ use lib.Seq.{getD-set-other}
 use Rattle.card.specs.declared.regs.Regs.{Regs}
 use Rattle.card.specs.declared.packets.Packet.{Packet}
 use Rattle.card.specs.Words.{pick}
-use Rattle.card.specs.Row.{registerBytes, rowBytes, regsOf, putRegs, marked, zeros, fit, wellFormed}
+use Rattle.card.specs.Row.{registerBytes, rowBytes, regsOf, putRegs, marked, zeros, awake, onLine, fit, wellFormed}
 use Rattle.card.specs.Registers.{pointer, afterRead, afterWrite, hardwareReset}
 use Rattle.card.specs.Refusals.{readNumber, writeNumber}
 use Rattle.card.specs.Access.{pointed, rowAfterRead, ramWritten, rowAfterWrite, rowAfterReset, freshRow}
@@ -32,6 +32,10 @@ length-fresh = refl
 pub well-fresh : wellFormed freshRow ≡ true
 unfolding freshRow putRegs hardwareReset wellFormed marked fit regsOf zeros
 well-fresh = refl
+
+pub fresh-off : onLine (regsOf freshRow) ≡ false
+unfolding freshRow putRegs hardwareReset regsOf onLine awake
+fresh-off = refl
 
 module _ (r : List ℕ) (l : length r ≡ rowBytes) where
   pub length-read : (k : ℕ) → length (rowAfterRead r k) ≡ rowBytes

@@ -3,7 +3,7 @@
 use mathlib.Core.Path.{_≡_, refl, ap}
 use mathlib.Core.Bool.{true, false}
 use mathlib.Core.List.{List, [], _∷_, _++_}
-use Prim.Native.Nat.{ℕ, _+_, _≤_, _<_}
+use Prim.Native.Nat.{ℕ, suc, zero, _+_, _≤_, _<_}
 use native.Mathlib.Omega.{arith}
 use native.Mathlib.Numerals.{add-one}
 use borrow.Author.Tests.{eq-eqb, ne-eqb}
@@ -16,6 +16,11 @@ use Rattle.card.specs.Access.{freshRow}
 pub zeros-end : (s : List ℕ) (i : ℕ) → length s ≤ i → zeros (drop i s) ≡ true
 unfolding zeros
 zeros-end s i h = rw (drop-of-length-le s h)
+
+pub zeros-replicate : (n : ℕ) → zeros (replicate n 0) ≡ true
+unfolding zeros
+zeros-replicate zero = refl
+zeros-replicate (suc n) = zeros-replicate n
 
 module _ (s : List ℕ) (i : ℕ) (h : i < length s) where
   pub zeros-not : (getD s i 0 ≡ 0 → ⊥) → zeros (drop i s) ≡ false
