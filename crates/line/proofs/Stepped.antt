@@ -1,0 +1,52 @@
+-- The public step: its refusals, and the step of a network that SHAPE does not refuse.
+-- Assumes nothing.
+use mathlib.Core.Path.{_≡_, refl, sym, _∙_, ap}
+use mathlib.Core.Bool.{Bool, true, false, not, _&&_}
+use mathlib.Core.List.{List}
+use mathlib.Core.Logic.{⊎-elim}
+use Prim.Native.Nat.{ℕ, _<_}
+use native.Mathlib.Omega.{arith}
+use borrow.Author.Tests.{eq-eqb, ne-eqb, eqb-true, eqb-false}
+use lib.Dec.{eqb, ltb}
+use Rattle.card.specs.declared.regs.Regs.{Regs}
+use Rattle.card.specs.declared.numbers.Cases.{Cases}
+use Rattle.line.specs.declared.step.Answer.{Answer}
+use Rattle.line.specs.declared.step.Answer.the-variants.{Refused}
+use Rattle.card.specs.Row.{onLine}
+use Rattle.card.specs.Numbers.{numberOf, placed}
+use Rattle.card.proofs.Bools.{cases}
+use Rattle.card.proofs.Order.{placed-shape}
+use Rattle.line.specs.Network.{rows, phase, holder, LOST, regsAt, onLineAt, shape}
+use Rattle.line.specs.Step.{stepCases, stepNumber, stepTurn, step}
+use Rattle.line.proofs.Shapes.{shape-rows, shape-holder, shape-lost}
+
+-- in every phase the holder's byte names a row
+pub held-row : (net : List ℕ) → shape net ≡ true → holder net < rows net
+held-row net s =
+    ⊎-elim (λ e. omega (arith, shape-lost net s (eqb-true (phase net) LOST e), shape-rows net s .0)) (λ e. shape-holder net s (eqb-false (phase net) LOST e) .0)
+    (cases (eqb (phase net) LOST))
+
+module _ (net : List ℕ) (fault : ℕ) where
+  pub no-shape : shape net ≡ false → (t : Cases) (k : ℕ) → k ≡ numberOf (placed true (t .row) t)
+      → (Refused k ≡ step net fault .answer) × (net ≡ step net fault .after)
+  unfolding step stepNumber
+  no-shape s t k e =
+      let one : k ≡ 1 = e ∙ placed-shape t (t .row) in
+      let h = not (eqb (phase net) LOST) && not (onLineAt net (holder net)) in
+      let v = placed-shape (stepCases true (ltb 3 fault) h) false in
+      (rw (s, v, one), rw (s, v))
+
+  module _ (s : shape net ≡ true) (h : ℕ) (eh : h ≡ holder net) (g : Regs) (eg : g ≡ regsAt net h) (o : Bool) (eo : o ≡ onLine g)
+      (k : ℕ) (ek : k ≡ numberOf (stepCases false (ltb 3 fault) (not (eqb (phase net) LOST) && not o))) where
+    number-is : k ≡ stepNumber net fault
+    unfolding stepNumber onLineAt
+    number-is = ek ∙ rw (s, eo, eg, eh)
+
+    pub refuses : (k ≡ 0 → ⊥) → (Refused k ≡ step net fault .answer) × (net ≡ step net fault .after)
+    unfolding step
+    refuses n = (rw (← number-is, ne-eqb _ _ n), rw (← number-is, ne-eqb _ _ n))
+
+    pub steps : k ≡ 0 → (a : Answer) (y : List ℕ) → (a ≡ stepTurn net fault .answer) × (y ≡ stepTurn net fault .after)
+        → (a ≡ step net fault .answer) × (y ≡ step net fault .after)
+    unfolding step
+    steps z a y e = (rw (← number-is, eq-eqb _ _ z) (e .0), rw (← number-is, eq-eqb _ _ z) (e .1))

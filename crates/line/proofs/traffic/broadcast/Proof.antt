@@ -1,0 +1,43 @@
+-- `line::traffic::broadcast` meets its contract. Assumes nothing.
+use mathlib.Core.Path.{refl, _∙_, ap}
+use mathlib.Core.Bool.{true, false}
+use Prim.Native.Nat.{ℕ}
+use Rattle.card.specs.declared.regs.Regs.{Regs}
+use Rattle.card.specs.Events.{sent}
+use Rattle.line.specs.Traffic.{wentOut, broadcastTurn}
+use Rattle.line.proofs.Sends.{has-header, within-kept, put-after}
+use borrow.Author.Needs.{needs}
+use Rattle.line.proofs.traffic.broadcast.Statement.{statement}
+use Rattle.line.proofs.traffic.broadcast.Tie as tie
+
+rows-requires : tie.Need-rows-requires
+rows-requires c κs = has-header _ (c .before .before .pre .0)
+
+regs-at-requires : tie.Need-regs-at-requires
+regs-at-requires c κs =
+    let s = c .before .before .before in
+    let a = s .before .before .before .before .before in
+    within-kept _ (a .pre .0) _ (a .pre .1 .0) _ (s .send .kept .0)
+
+put-regs-requires : tie.Need-put-regs-requires
+put-regs-requires c κs =
+    let s = c .before .before .before .before .before .before in
+    let a = s .before .before .before .before .before in
+    within-kept _ (a .pre .0) _ (a .pre .1 .0) _ (s .send .kept .0)
+
+returns : tie.Need-returns
+unfolding broadcastTurn
+returns c =
+    let u = c .before .before in
+    let v = u .before .before in
+    let s = v .before .before .before .before .before in
+    let n = s .before .before in
+    let a = n .before .before .before .args in
+    let e = ap (λ (n : ℕ). wentOut (a .net .now) (a .h) (a .page) (a .fault) n true) (n .rows .ensures .0) in
+    (refl, put-after _ _ (s .send .ensures ∙ e) (a .h) _ (v .before .regs-at .ensures) (λ (g : Regs). sent g false) _ (v .sent .ensures) _ (u .put-regs .ensures))
+
+pub broadcast-spec : {M : Type 1} → statement M
+broadcast-spec =
+    tie.close
+    (tie.spec rows-requires (λ c κs. search needs) regs-at-requires (λ c κs. search needs) put-regs-requires
+    (λ c. search needs) returns)

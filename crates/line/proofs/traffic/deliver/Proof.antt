@@ -1,0 +1,58 @@
+-- `line::traffic::deliver` meets its contract. Assumes nothing.
+use Rattle.line.proofs.Shapes.{shape-within}
+use Rattle.line.proofs.Sends.{within-kept}
+use Rattle.line.proofs.Outcomes.{ack-is, delivered}
+use borrow.Author.Needs.{needs}
+use Rattle.line.proofs.traffic.deliver.Statement.{statement}
+use Rattle.line.proofs.traffic.deliver.Tie as tie
+
+row-at-requires : tie.Need-row-at-requires
+row-at-requires c κs = let a = c .before .before in shape-within _ (a .pre .0) _ (a .pre .1 .0)
+
+regs-at-requires : tie.Need-regs-at-requires
+regs-at-requires c κs = let a = c .before .before .before .before .before in shape-within _ (a .pre .0) _ (a .pre .1 .1 .1)
+
+regs-at-requires-2 : tie.Need-regs-at-requires-2
+regs-at-requires-2 c κs =
+    let s = c .before .before .before in
+    let a = s .before .before .before .before .before .before .before .before .before in
+    within-kept _ (a .pre .0) _ (a .pre .1 .0) _ (s .send .kept .0)
+
+put-regs-requires : tie.Need-put-regs-requires
+put-regs-requires c κs =
+    let s = c .before .before .before .before .before .before .before in
+    let a = s .before .before .before .before .before .before .before .before .before in
+    within-kept _ (a .pre .0) _ (a .pre .1 .0) _ (s .send .kept .0)
+
+returns : tie.Need-returns
+returns c =
+    let u = c .before .before .before in
+    let v = u .before .before in
+    let s = v .before .before .before .before .before .before in
+    let b = s .before .before in
+    let g = b .before in
+    let w = g .before .before in
+    let a = w .before .before .before .before .args in
+    let k = ack-is (a .net .now) (a .h) (a .page) (a .fault) (a .t) _ (w .before .row-at .ensures .0) _ (w .page-shape .ensures) _ (g .regs-at .ensures) _ (b .storable .ensures) in
+    let d = delivered (a .net .now) (a .h) (a .page) (a .fault) (a .t) _ k _ (s .send .ensures) _ (v .before .before .regs-at2 .ensures) _ (v .before .heard .ensures) _ (v .sent .ensures) _ (u .put-regs .ensures) in
+    (rw (c .if1 .taken) at (d .0), d .1)
+
+returns-2 : tie.Need-returns-2
+returns-2 c =
+    let u = c .before .before .before in
+    let v = u .before .before in
+    let s = v .before .before .before .before .before .before in
+    let b = s .before .before in
+    let g = b .before in
+    let w = g .before .before in
+    let a = w .before .before .before .before .args in
+    let k = ack-is (a .net .now) (a .h) (a .page) (a .fault) (a .t) _ (w .before .row-at .ensures .0) _ (w .page-shape .ensures) _ (g .regs-at .ensures) _ (b .storable .ensures) in
+    let d = delivered (a .net .now) (a .h) (a .page) (a .fault) (a .t) _ k _ (s .send .ensures) _ (v .before .before .regs-at2 .ensures) _ (v .before .heard .ensures) _ (v .sent .ensures) _ (u .put-regs .ensures) in
+    (rw (c .if1 .left) at (d .0), d .1)
+
+pub deliver-spec : {M : Type 1} → statement M
+deliver-spec =
+    tie.close
+    (tie.spec row-at-requires (λ c κs. search needs) regs-at-requires (λ c κs. search needs)
+    (λ c κs. search needs) regs-at-requires-2 (λ c κs. search needs) (λ c κs. search needs) put-regs-requires
+    (λ c. search needs) returns (λ c. search needs) returns-2)

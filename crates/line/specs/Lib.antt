@@ -1,0 +1,5 @@
+pub mod Folds
+pub mod Network
+pub mod Calls
+pub mod Traffic
+pub mod Step

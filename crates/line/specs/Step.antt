@@ -1,0 +1,88 @@
+-- Document 01, "One line step": LOST, PASS, and the step itself.
+-- Assumes nothing.
+use mathlib.Core.Bool.{Bool, true, false, not, _&&_}
+use mathlib.Core.List.{List}
+use Prim.Native.Nat.{ℕ}
+use lib.Dec.{eqb, ltb}
+use Rattle.card.specs.declared.numbers.Cases.{Cases}
+use Rattle.line.specs.declared.passes.Event.the-variants.{Recovery, Message, Taken}
+use Rattle.line.specs.declared.traffic.Outcome.{Outcome}
+use Rattle.line.specs.declared.step.Answer.{Answer}
+use Rattle.line.specs.declared.step.Answer.the-variants.{Refused, Quiet, Recovered, Passed, Unanswered, TokenLost, Held}
+use Rattle.card.specs.Words.{pick}
+use Rattle.card.specs.Numbers.{numberOf}
+use Rattle.card.specs.Events.{risenNid}
+use Rattle.line.specs.Network.{rows, phase, holder, LOST, PASS, TAKEN, turned, regsAt, onLineAt, nodeOf, topId, shape}
+use Rattle.line.specs.Traffic.{Turn, onRow, happened, takenTurn}
+
+-- "3 invitation destroyed"
+abbrev pub destroyed : ℕ → Bool
+destroyed fault = eqb fault 3
+
+-- ---- "LOST: no node on line: Quiet, nothing changes. Else .. the on-line row of highest ID holds in PASS. Recovered(row)."
+abbrev pub highest : List ℕ → ℕ
+highest net = nodeOf net (topId net (rows net)) (rows net) (rows net)
+
+unfoldable pub lostTurn : List ℕ → Turn Answer
+lostTurn net =
+    pick (eqb (topId net (rows net)) 0) (record { answer = Quiet; after = net })
+    (record { answer = Recovered (highest net); after = turned (happened net Recovery) PASS (highest net) })
+
+-- ---- "PASS: an invitation goes to the holder's NID"
+abbrev pub invited : List ℕ → ℕ
+invited net = regsAt net (holder net) .nid
+
+-- "If another on-line row has that ID it holds"
+abbrev pub taker : List ℕ → ℕ
+taker net = nodeOf net (invited net) (holder net) (rows net)
+
+unfoldable pub passTurn : List ℕ → ℕ → Turn Answer
+passTurn net fault =
+    pick (destroyed fault) (record { answer = TokenLost; after = turned (happened net (Message (holder net) false)) LOST 0 })
+    (pick (ltb (taker net) (rows net))
+    (record { answer = Passed (taker net); after = turned (happened (happened net (Message (holder net) true)) (Taken (invited net) (taker net))) TAKEN (taker net) })
+    (record { answer = Unanswered (invited net); after = onRow (happened net (Message (holder net) true)) (holder net) risenNid }))
+
+-- "Phase becomes PASS. Held(outcome)."
+abbrev pub held : Turn Outcome → ℕ → Turn Answer
+held t h = record { answer = Held (t .answer); after = turned (t .after) PASS h }
+
+-- ---- the step
+unfoldable pub stepTurn : List ℕ → ℕ → Turn Answer
+stepTurn net fault =
+    pick (eqb (phase net) LOST) (lostTurn net) (pick (eqb (phase net) PASS) (passTurn net fault) (held (takenTurn net (holder net) fault) (holder net)))
+
+-- "4 VALUE: fault above 3"; "11 HOLDER: line step in PASS or TAKEN, holder not on line"
+abbrev pub stepCases : (shape value holder : Bool) → Cases
+stepCases shape value holder = record {
+  shape = shape;
+  row = false;
+  register = false;
+  value = value;
+  notready = false;
+  direction = false;
+  busy = false;
+  online = false;
+  page = false;
+  duplicate = false;
+  holder = holder;
+  alone = false;
+  room = false;
+  order = false;
+}
+
+unfoldable pub stepNumber : List ℕ → ℕ → ℕ
+stepNumber net fault = numberOf (stepCases (not (shape net)) (ltb 3 fault) (not (eqb (phase net) LOST) && not (onLineAt net (holder net))))
+
+unfoldable pub step : List ℕ → ℕ → Turn Answer
+step net fault = pick (eqb (stepNumber net fault) 0) (stepTurn net fault) (record { answer = Refused (stepNumber net fault); after = net })
+
+-- the number of an answer, in the table of "Numbers a caller may get"
+abbrev pub answerNumber : Answer → ℕ
+answerNumber (Refused n) = n
+answerNumber Quiet = 0
+answerNumber (Recovered r) = 0
+answerNumber (Passed r) = 0
+answerNumber (Unanswered i) = 0
+answerNumber TokenLost = 0
+answerNumber (Held o) = 0

@@ -1,0 +1,113 @@
+// Document 01, "One line step".
+ghost use mathlib.Core.Path.{_≡_};
+ghost use mathlib.Core.Bool.{true};
+ghost use Prim.Native.Nat.{_<_};
+ghost use Rattle.line.specs.Network.{rows, holder, shape};
+ghost use Rattle.line.specs.Step.{lostTurn, passTurn, stepTurn, step};
+use crate::network::LOST;
+use crate::network::PASS;
+use crate::network::TAKEN;
+use crate::network::node_of;
+use crate::network::regs_at;
+use crate::network::rows;
+use crate::network::shape;
+use crate::network::top_id;
+use crate::network::turn;
+use crate::network::wide;
+use crate::passes::Event;
+use crate::passes::happen;
+use crate::passes::put_regs;
+use crate::traffic::Outcome;
+use crate::traffic::taken;
+use card::numbers::Cases;
+
+// What a step answers. A row is given by its number, from 0; `Unanswered` names the ID that was invited.
+pub enum Answer {
+    Refused(u8),
+    Quiet,
+    Recovered(usize),
+    Passed(usize),
+    Unanswered(u8),
+    TokenLost,
+    Held(Outcome),
+}
+
+fn lost(net: &mut [u8]) -> Answer
+    requires { ⌜ shape (now net) ≡ true ⌝ }
+    ensures answer { λ r. ⌜ r ≡ lostTurn (now (net .entry)) .answer ⌝ }
+    ensures bytes { λ _. ⌜ now (net .exit) ≡ lostTurn (now (net .entry)) .after ⌝ }
+{
+    let n = rows(net);
+    let top = top_id(net, n);
+    if top == 0 {
+        return Answer::Quiet;
+    }
+    let h = node_of(net, top, n, n);
+    happen(net, n, Event::Recovery);
+    turn(net, PASS, h as u8);
+    Answer::Recovered(h)
+}
+
+fn pass(net: &mut [u8], fault: usize) -> Answer
+    requires { ⌜ shape (now net) ≡ true ⌝ }
+    requires { ⌜ holder (now net) < rows (now net) ⌝ }
+    ensures answer { λ r. ⌜ r ≡ passTurn (now (net .entry)) fault .answer ⌝ }
+    ensures bytes { λ _. ⌜ now (net .exit) ≡ passTurn (now (net .entry)) fault .after ⌝ }
+{
+    let n = rows(net);
+    let h = wide(net[5]);
+    if fault == 3 {
+        happen(net, n, Event::Message(h, false));
+        turn(net, LOST, 0);
+        return Answer::TokenLost;
+    }
+    let id = regs_at(net, h).nid;
+    let t = node_of(net, id, h, n);
+    happen(net, n, Event::Message(h, true));
+    if t < n {
+        happen(net, n, Event::Taken(id, t));
+        turn(net, TAKEN, t as u8);
+        return Answer::Passed(t);
+    }
+    let g = regs_at(net, h).risen_nid();
+    put_regs(net, h, g);
+    Answer::Unanswered(id)
+}
+
+// A step of a network that SHAPE does not refuse. It serves whoever has tested SHAPE already.
+pub fn step_on(net: &mut [u8], fault: usize) -> Answer
+    requires { ⌜ shape (now net) ≡ true ⌝ }
+    ensures answer { λ r. ⌜ r ≡ stepTurn (now (net .entry)) fault .answer ⌝ }
+    ensures bytes { λ _. ⌜ now (net .exit) ≡ stepTurn (now (net .entry)) fault .after ⌝ }
+{
+    let phase = net[4];
+    let h = net[5];
+    if phase == LOST {
+        return lost(net);
+    }
+    if phase == PASS {
+        return pass(net, fault);
+    }
+    let outcome = taken(net, wide(h), fault);
+    turn(net, PASS, h);
+    Answer::Held(outcome)
+}
+
+// One line step.
+pub fn step(net: &mut [u8], fault: usize) -> Answer
+    ensures answer { λ r. ⌜ r ≡ step (now (net .entry)) fault .answer ⌝ }
+    ensures bytes { λ _. ⌜ now (net .exit) ≡ step (now (net .entry)) fault .after ⌝ }
+{
+    let mut cases = Cases::none();
+    if !shape(net) {
+        cases.shape = true;
+        return Answer::Refused(cases.number());
+    }
+    cases.value = 3 < fault;
+    cases.holder = (net[4] != LOST) & !regs_at(net, wide(net[5])).on_line();
+    let number = cases.number();
+    if number != 0 {
+        return Answer::Refused(number);
+    }
+    step_on(net, fault)
+}
