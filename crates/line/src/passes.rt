@@ -48,7 +48,7 @@ fn happen_row(row: &mut [u8], k: usize, event: Event)
 }
 
 // The event reaches each of the first n rows.
-pub fn happen(net: &mut [u8], n: usize, event: Event)
+pub(crate) fn happen(net: &mut [u8], n: usize, event: Event)
     requires { ⌜ rowStart n ≤ length (now net) ⌝ }
     ensures { λ _. ⌜ now (net .exit) ≡ eachRow (λ k r. onRegs (happens event k) r) (now (net .entry)) n ⌝ }
 {
@@ -61,7 +61,7 @@ pub fn happen(net: &mut [u8], n: usize, event: Event)
 }
 
 // One row is given other registers.
-pub fn put_regs(net: &mut [u8], k: usize, g: Regs)
+pub(crate) fn put_regs(net: &mut [u8], k: usize, g: Regs)
     requires { ⌜ rowStart k + rowBytes ≤ length (now net) ⌝ }
     ensures { λ _. ⌜ now (net .exit) ≡ setRow (now (net .entry)) k (putRegs (rowAt (now (net .entry)) k) g) ⌝ }
 {
@@ -85,7 +85,7 @@ fn carry_row(row: &mut [u8], takes: bool, packet: Packet)
 }
 
 // The packet reaches row `to`, and of a broadcast each row but h that wants it.
-pub fn carry(net: &mut [u8], n: usize, h: usize, to: usize, broadcast: bool, packet: Packet)
+pub(crate) fn carry(net: &mut [u8], n: usize, h: usize, to: usize, broadcast: bool, packet: Packet)
     requires { ⌜ rowStart n ≤ length (now net) ⌝ }
     requires { ⌜ rowsFit (now net) n ≡ true ⌝ }
     ensures { λ _. ⌜ now (net .exit) ≡ eachRow (carriedRow h to broadcast packet) (now (net .entry)) n ⌝ }

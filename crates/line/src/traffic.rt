@@ -124,7 +124,7 @@ fn attempt(net: &mut [u8], h: usize, page: usize, fault: usize) -> Outcome
 }
 
 // TAKEN: the cancels asked of the holder take effect, and then it tries its packet.
-pub fn taken(net: &mut [u8], h: usize, fault: usize) -> Outcome
+pub(crate) fn taken(net: &mut [u8], h: usize, fault: usize) -> Outcome
     requires { ⌜ shape (now net) ≡ true ⌝ }
     requires { ⌜ h < rows (now net) ⌝ }
     ensures answer { λ r. ⌜ r ≡ takenTurn (now (net .entry)) h fault .answer ⌝ }
