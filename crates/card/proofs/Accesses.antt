@@ -4,7 +4,7 @@ use mathlib.Core.Path.{_≡_, refl, sym, _∙_, ap}
 use mathlib.Core.Bool.{Bool, true, false}
 use mathlib.Core.List.{List}
 use Prim.Native.Nat.{ℕ, _+_}
-use borrow.Author.Tests.{eq-eqb, ne-eqb}
+use borrow.Author.Tests.{eq-eqb, ne-eqb, eqb-true}
 use lib.Dec.{eqb}
 use lib.ListN.{length, getD, set, length-set}
 use Rattle.card.specs.declared.regs.Regs.{Regs}
@@ -14,6 +14,7 @@ use Rattle.card.specs.Row.{registerBytes, regsOf, putRegs}
 use Rattle.card.specs.Registers.{pointer, readValue, afterRead, afterWrite}
 use Rattle.card.specs.Refusals.{readNumber, writeNumber}
 use Rattle.card.specs.Access.{reading, rowAfterRead, ramWritten, rowAfterWrite}
+use Rattle.card.proofs.Bools.{pick-of}
 
 module _ (r : List ℕ) (k n : ℕ) (g : Regs) (p : g ≡ regsOf r) (q : n ≡ readNumber g k) where
   read-number : n ≡ readNumber (regsOf r) k
@@ -48,3 +49,9 @@ length-ram r k a v = split (eqb k 4)
     split : (b : Bool) → length (pick b (set r a v) r) ≡ length r
     split true = length-set r a v
     split false = refl
+
+-- the number that a read answers is its refusal's
+pub reading-number : (r : List ℕ) (k : ℕ) → reading r k .number ≡ readNumber (regsOf r) k
+unfolding reading
+reading-number r k =
+    pick-of (λ (a : Reading). a .number ≡ readNumber (regsOf r) k) (eqb (readNumber (regsOf r) k) 0) (λ e. sym (eqb-true _ _ e)) (λ _. refl)

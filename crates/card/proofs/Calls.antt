@@ -17,7 +17,7 @@ use Rattle.card.specs.Fields.{with-status, with-configuration}
 use Rattle.card.specs.Row.{fit}
 use Rattle.card.specs.Commands.{pageOf, commandOf}
 use Rattle.card.specs.Registers.{sub, risen, stepped, afterRead, hardwareReset, configured, commanded, seventhWritten, afterWrite}
-use Rattle.card.specs.Refusals.{illegal, busy, oddPage, writeCases, writeNumber}
+use Rattle.card.specs.Refusals.{illegal, busy, oddPage, readCases, writeCases, writeNumber}
 use Rattle.card.proofs.Bools.{or-left, or-right, pick-of}
 use Rattle.card.proofs.Table.{by-table}
 use Rattle.card.proofs.Order.{tests, none-holds}
@@ -153,3 +153,12 @@ fit-reset = refl
 pub write-single : (g : Regs) (k v : ℕ) (o d : Bool) → writeNumber g k v o d ≡ 0 → d ≡ false
 unfolding writeCases
 write-single g k v o d e = none-holds (writeCases g k v o d) e 9 (lit< tt)
+
+-- SHAPE and ROW are none of the card's own cases
+pub read-own : (g : Regs) (k : ℕ) → (readCases g k .shape ≡ false) × (readCases g k .row ≡ false)
+unfolding readCases
+read-own g k = (refl, refl)
+
+pub write-own : (g : Regs) (k v : ℕ) (o d : Bool) → (writeCases g k v o d .shape ≡ false) × (writeCases g k v o d .row ≡ false)
+unfolding writeCases
+write-own g k v o d = (refl, refl)
