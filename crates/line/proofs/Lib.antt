@@ -20,3 +20,4 @@ pub mod Outcomes
 pub mod Tries
 pub mod Turns
 pub mod Stepped
+pub mod OneOrder
