@@ -1,7 +1,7 @@
 -- What each call and each event leaves alone, and what it changes: who the card is, its configuration, and whom it invites next.
 -- Assumes nothing.
-use mathlib.Core.Path.{_≡_, refl, sym, _∙_, ap}
-use mathlib.Core.Bool.{Bool, true, false, not, _&&_}
+use mathlib.Core.Path.{_≡_, refl, _∙_}
+use mathlib.Core.Bool.{Bool, false}
 use Prim.Native.Nat.{ℕ, _+_, _%_}
 use borrow.Author.Tests.{eqb-true}
 use lib.Dec.{eqb}

@@ -14,8 +14,8 @@ use Rattle.card.specs.declared.packets.Shape.{Shape}
 use Rattle.card.specs.declared.packets.Shape.the-variants.{Malformed, Short, Long}
 use Rattle.card.specs.declared.packets.Packet.{Packet}
 use Rattle.card.specs.Words.{pick, clear}
-use Rattle.card.specs.Numbers.{numberOf}
-use Rattle.card.specs.Refusals.{accessCases}
+use Rattle.card.specs.CaseFields.{with-value}
+use Rattle.card.specs.Numbers.{none, numberOf}
 use Rattle.card.specs.Row.{rowBytes, regsOf}
 use Rattle.card.specs.Packets.{shapeOf, dataBytes, dataAt, headBytes, pageBytes, pageAt, pageShape, pageData, dataNumber, malformed, laid, headOf, dataOf, stored, stamped}
 use Rattle.card.proofs.Bools.{cases}
@@ -132,8 +132,8 @@ data-empty r p l b = split (ltb 3 p) refl (pageShape r p) refl
         omega (arith, length-part (pageAt p + dataAt s) (dataBytes s) r (omega (arith, data-fits r p h s (sym e) b)), data-least s m (page-count r p h s (sym e) b))
 
     split : (t : Bool) → ltb 3 p ≡ t → (s : Shape) → pageShape r p ≡ s
-        → ((numberOf (accessCases false (t || malformed s) false false false false false false) ≡ 0 → ⊥) → length (pick t [] (take (dataBytes s) (drop (pageAt p + dataAt s) r))) ≡ 0)
-        × (length (pick t [] (take (dataBytes s) (drop (pageAt p + dataAt s) r))) ≡ 0 → numberOf (accessCases false (t || malformed s) false false false false false false) ≡ 0 → ⊥)
+        → ((numberOf (with-value (t || malformed s) none) ≡ 0 → ⊥) → length (pick t [] (take (dataBytes s) (drop (pageAt p + dataAt s) r))) ≡ 0)
+        × (length (pick t [] (take (dataBytes s) (drop (pageAt p + dataAt s) r))) ≡ 0 → numberOf (with-value (t || malformed s) none) ≡ 0 → ⊥)
     split true et s es = (λ n. refl, λ z n. omega arith)
     split false et Malformed es = (λ n. refl, λ z n. omega arith)
     split false et (Short c) es = (λ n. absurd (n refl), λ z n. filled (omega (arith, ltb-false)) (Short c) es refl z)

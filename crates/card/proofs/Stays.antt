@@ -1,20 +1,19 @@
 -- A well-formed row stays well formed and as long, through every call on its bytes.
 -- Assumes nothing.
-use mathlib.Core.Path.{_≡_, refl, sym, _∙_, ap}
+use mathlib.Core.Path.{_≡_, refl, _∙_}
 use mathlib.Core.Bool.{Bool, true, false}
 use mathlib.Core.List.{List}
 use mathlib.Core.Logic.{inl}
-use Prim.Native.Nat.{ℕ, _+_, _*_, _%_, _≤_, _<_}
+use Prim.Native.Nat.{ℕ, _+_, _≤_, _<_}
 use native.Mathlib.Omega.{arith}
 use borrow.Author.Tests.{eqb-true}
 use lib.Dec.{eqb}
-use lib.ListN.{length, getD, set, length-set}
+use lib.ListN.{length, set, length-set}
 use lib.Seq.{getD-set-other}
 use Rattle.card.specs.declared.regs.Regs.{Regs}
 use Rattle.card.specs.declared.packets.Packet.{Packet}
-use Rattle.card.specs.Words.{pick}
 use Rattle.card.specs.Row.{registerBytes, rowBytes, regsOf, putRegs, marked, zeros, awake, onLine, fit, wellFormed}
-use Rattle.card.specs.Registers.{pointer, afterRead, afterWrite, hardwareReset}
+use Rattle.card.specs.Registers.{afterRead, afterWrite, hardwareReset}
 use Rattle.card.specs.Refusals.{readNumber, writeNumber}
 use Rattle.card.specs.Access.{pointed, rowAfterRead, ramWritten, rowAfterWrite, rowAfterReset, freshRow}
 use Rattle.card.specs.Packets.{dataAt, pageBytes, pageAt, stored, stamped}
@@ -23,7 +22,7 @@ use Rattle.card.proofs.Rows.{regs-same, length-put, well-fit, well-same
 use Rattle.card.proofs.Fits.{Fit, fit-rules, rules-fit}
 use Rattle.card.proofs.Accesses.{length-ram}
 use Rattle.card.proofs.Calls.{keep-read, keep-write, fit-reset}
-use Rattle.card.proofs.Pages.{stored-outside, length-stored, length-stamped}
+use Rattle.card.proofs.Pages.{stored-outside, length-stored}
 
 pub length-fresh : length freshRow ≡ rowBytes
 unfolding freshRow putRegs

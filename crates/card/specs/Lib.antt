@@ -1,4 +1,5 @@
 pub mod Words
+pub mod CaseFields
 pub mod Numbers
 pub mod Flags
 pub mod Fields

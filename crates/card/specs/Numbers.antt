@@ -4,6 +4,7 @@ use mathlib.Core.Bool.{Bool, false}
 use Prim.Native.Nat.{ℕ}
 use Rattle.card.specs.declared.numbers.Cases.{Cases}
 use Rattle.card.specs.Words.{pick}
+use Rattle.card.specs.CaseFields.{with-shape, with-row}
 
 -- no case of the table
 abbrev pub none : Cases
@@ -44,19 +45,4 @@ numberOf t =
 
 -- the cases of a call to a row of a network: SHAPE and ROW beside the card's own
 abbrev pub placed : (shape row : Bool) → Cases → Cases
-placed shape row t = record {
-  shape = shape;
-  row = row;
-  register = t .register;
-  value = t .value;
-  notready = t .notready;
-  direction = t .direction;
-  busy = t .busy;
-  online = t .online;
-  page = t .page;
-  duplicate = t .duplicate;
-  holder = t .holder;
-  alone = t .alone;
-  room = t .room;
-  order = t .order;
-}
+placed shape row t = with-shape shape (with-row row t)

@@ -9,9 +9,9 @@ use Rattle.card.specs.declared.packets.Shape.{Shape}
 use Rattle.card.specs.declared.packets.Shape.the-variants.{Malformed, Short, Long}
 use Rattle.card.specs.declared.packets.Packet.{Packet}
 use Rattle.card.specs.Words.{pick, clear}
-use Rattle.card.specs.Numbers.{numberOf}
+use Rattle.card.specs.CaseFields.{with-value}
+use Rattle.card.specs.Numbers.{none, numberOf}
 use Rattle.card.specs.Row.{registerBytes, regsOf}
-use Rattle.card.specs.Refusals.{accessCases}
 
 -- "COUNT 3-255: .. COUNT 0, with long packets 1 and an even page: byte 3 is COUNT, 4-255 .. All else is malformed": of the byte
 -- at offset 2, the one after it, and whether the page may be long
@@ -59,7 +59,7 @@ malformed (Long c) = false
 
 -- "4 VALUE: .. reader: page above 3 or malformed"
 unfoldable pub dataNumber : List ℕ → ℕ → ℕ
-dataNumber r p = numberOf (accessCases false (ltb 3 p || malformed (pageShape r p)) false false false false false false)
+dataNumber r p = numberOf (with-value (ltb 3 p || malformed (pageShape r p)) none)
 
 -- "A reader asks for the data of a page of a row and gets back that stretch ..; a refusal gives a stretch of length 0"
 unfoldable pub pageData : List ℕ → ℕ → List ℕ

@@ -9,7 +9,8 @@ use Rattle.card.specs.declared.commands.Command.the-variants.{Illegal, D
 use Rattle.card.specs.declared.numbers.Cases.{Cases}
 use Rattle.card.specs.Words.{clear, has}
 use Rattle.card.specs.Flags.{RI, TA, RDDATA, only, maskBits, configurationBits, setupBits, modeBits}
-use Rattle.card.specs.Numbers.{numberOf}
+use Rattle.card.specs.CaseFields.{with-register, with-value, with-notready, with-direction, with-busy, with-online, with-page, with-duplicate}
+use Rattle.card.specs.Numbers.{none, numberOf}
 use Rattle.card.specs.Row.{awake}
 use Rattle.card.specs.Commands.{commandOf}
 use Rattle.card.specs.Registers.{sub}
@@ -54,34 +55,19 @@ oddPage g (EnableReceive p b) = has 1 p && eqb (g .long) 1
 oddPage g (LongPackets l) = false
 oddPage g (ClearFlags p r) = false
 
--- the cases that a register access can meet
-abbrev pub accessCases : (register value notready direction busy online page duplicate : Bool) → Cases
-accessCases register value notready direction busy online page duplicate = record {
-  shape = false;
-  row = false;
-  register = register;
-  value = value;
-  notready = notready;
-  direction = direction;
-  busy = busy;
-  online = online;
-  page = page;
-  duplicate = duplicate;
-  holder = false;
-  alone = false;
-  room = false;
-  order = false;
-}
-
 -- "6 DIRECTION: register 4 read with RDDATA 0 .."
 unfoldable pub readCases : Regs → ℕ → Cases
-readCases g k = accessCases (noRegister g k) false false (eqb k 4 && clear RDDATA (g .mode)) false false false false
+readCases g k = with-register (noRegister g k) (with-direction (eqb k 4 && clear RDDATA (g .mode)) none)
 
 -- ".. or written with 1"; "5 NOTREADY: command to a row not awake". ONLINE and DUPLICATE are the network's to say
 unfoldable pub writeCases : Regs → ℕ → ℕ → Bool → Bool → Cases
 writeCases g k v online duplicate =
-    accessCases (noRegister g k) (badValue g k v) (eqb k 1 && not (awake g)) (eqb k 4 && has RDDATA (g .mode))
-    (eqb k 1 && busy g (commandOf v)) online (eqb k 1 && oddPage g (commandOf v)) duplicate
+    with-register (noRegister g k)
+    (with-value (badValue g k v)
+    (with-notready (eqb k 1 && not (awake g))
+    (with-direction (eqb k 4 && has RDDATA (g .mode))
+    (with-busy (eqb k 1 && busy g (commandOf v))
+    (with-online online (with-page (eqb k 1 && oddPage g (commandOf v)) (with-duplicate duplicate none)))))))
 
 abbrev pub readNumber : Regs → ℕ → ℕ
 readNumber g k = numberOf (readCases g k)

@@ -1,6 +1,6 @@
 -- The outcomes of a packet, put together from what the parts ensure.
 -- Assumes nothing.
-use mathlib.Core.Path.{_≡_, refl, sym, _∙_, ap}
+use mathlib.Core.Path.{_≡_, sym, _∙_, ap}
 use mathlib.Core.Bool.{Bool, true, false, not, _&&_}
 use mathlib.Core.List.{List}
 use Prim.Native.Nat.{ℕ, _≤_, _<_}
@@ -11,7 +11,7 @@ use Rattle.card.specs.declared.regs.Regs.{Regs}
 use Rattle.card.specs.declared.packets.Shape.{Shape}
 use Rattle.line.specs.declared.passes.Event.the-variants.{Message}
 use Rattle.line.specs.declared.traffic.Outcome.{Outcome}
-use Rattle.line.specs.declared.traffic.Outcome.the-variants.{Nothing, Malformed, Broadcast, NoAnswer, Nak, Delivered, Unacknowledged}
+use Rattle.line.specs.declared.traffic.Outcome.the-variants.{NoAnswer, Nak, Delivered, Unacknowledged}
 use Rattle.card.specs.Words.{pick}
 use Rattle.card.specs.Packets.{pageShape}
 use Rattle.card.specs.Row.{putRegs}

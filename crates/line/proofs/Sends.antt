@@ -1,6 +1,6 @@
 -- A packet goes out, put together from what its parts ensure.
 -- Assumes nothing.
-use mathlib.Core.Path.{_≡_, refl, sym, _∙_, ap}
+use mathlib.Core.Path.{_≡_, sym, _∙_, ap}
 use mathlib.Core.Bool.{Bool, true, false}
 use mathlib.Core.List.{List}
 use Prim.Native.Nat.{ℕ, _+_, _-_, _≤_, _<_}
@@ -18,9 +18,8 @@ use Rattle.card.proofs.Pages.{length-stamped}
 use Rattle.line.specs.Network.{headerBytes, rowStart, rows, holder, rowAt, setRow, eachRow, onRegs, regsAt, rowsFit, shape}
 use Rattle.line.specs.Traffic.{onRow, happens, happened, carriedRow, carried, stampedNet, wentOut}
 use Rattle.line.proofs.Folds.{every-of}
-use Rattle.line.proofs.Networks.{mid-row, put-row, setRow-header, length-setRow}
-use Rattle.line.proofs.EachRow.{eachRow-header}
-use Rattle.line.proofs.Shapes.{shape-length, shape-rows, shape-row, shape-row-length, shape-within}
+use Rattle.line.proofs.Networks.{mid-row, put-row, setRow-header}
+use Rattle.line.proofs.Shapes.{shape-length, shape-row, shape-row-length, shape-within}
 use Rattle.line.proofs.StepsKeep.{shape-happened, shape-stamped, rows-happened}
 
 -- the bounds that a well-formed network gives to the code

@@ -1,19 +1,18 @@
 -- What a step does to the rows keeps SHAPE.
 -- Assumes nothing.
-use mathlib.Core.Path.{_≡_, refl, sym, _∙_, ap}
-use mathlib.Core.Bool.{Bool, true, false}
+use mathlib.Core.Path.{_≡_, refl, _∙_, ap}
+use mathlib.Core.Bool.{true}
 use mathlib.Core.List.{List}
-use Prim.Native.Nat.{ℕ, _+_, _≤_, _<_}
+use Prim.Native.Nat.{ℕ, _<_}
 use native.Mathlib.Omega.{arith}
 use lib.Dec.{eqb}
 use lib.ListN.{length}
 use Rattle.card.specs.declared.regs.Regs.{Regs}
 use Rattle.line.specs.declared.passes.Event.{Event}
 use Rattle.line.specs.declared.passes.Event.the-variants.{Recovery, Message, Taken}
-use Rattle.card.specs.Words.{pick}
 use Rattle.card.specs.Row.{rowBytes, regsOf, putRegs, onLine, wellFormed}
 use Rattle.card.specs.Packets.{stamped}
-use Rattle.card.specs.Events.{recovered, heard, answered, cancelled}
+use Rattle.card.specs.Events.{cancelled}
 use Rattle.card.proofs.Bools.{pick-of}
 use Rattle.card.proofs.Rows.{length-put, regs-put, well-fit}
 use Rattle.card.proofs.Fits.{Fit, fit-rules}

@@ -1,17 +1,16 @@
 -- Document 01, "Registers" and "Packets", for a row of a network: each call's answer and the bytes after it.
 -- Assumes nothing.
-use mathlib.Core.Bool.{Bool, true, false, not, _&&_, _||_}
+use mathlib.Core.Bool.{Bool, false, not, _&&_, _||_}
 use mathlib.Core.List.{List, [], _∷_, _++_}
 use Prim.Native.Nat.{ℕ, zero, suc}
 use lib.Dec.{eqb, leb, ltb}
 use lib.ListN.{length, replicate}
-use Rattle.card.specs.declared.regs.Regs.{Regs}
 use Rattle.card.specs.declared.row.Reading.{Reading}
 use Rattle.card.specs.declared.numbers.Cases.{Cases}
 use Rattle.line.specs.declared.calls.Interrupting.{Interrupting}
 use Rattle.card.specs.Words.{pick}
 use Rattle.card.specs.Numbers.{none, numberOf, placed}
-use Rattle.card.specs.Row.{regsOf, putRegs, onLine}
+use Rattle.card.specs.Row.{onLine}
 use Rattle.card.specs.Registers.{interrupt, writesId, afterWrite}
 use Rattle.card.specs.Refusals.{writeNumber}
 use Rattle.card.specs.Access.{reading, rowAfterRead, rowAfterWrite, rowAfterReset, freshRow}

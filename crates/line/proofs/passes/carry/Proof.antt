@@ -1,7 +1,6 @@
 -- `line::passes::carry` meets its contract. The invariant: the packet has reached the rows below k, and the others are as they were.
 -- Assumes nothing.
 use mathlib.Core.Path.{_≡_, refl, sym, _∙_, ap}
-use mathlib.Core.List.{List}
 use Prim.Native.Nat.{ℕ, _-_, _≤_, _<_}
 use lib.ListN.{length}
 use native.Mathlib.Omega.{arith}

@@ -1,5 +1,4 @@
 -- `line::step::step_on` meets its contract. Assumes nothing.
-use mathlib.Core.Path.{_∙_}
 use native.Mathlib.Omega.{arith}
 use Rattle.line.proofs.Shapes.{shape-holder}
 use Rattle.line.proofs.Sends.{has-header, header-kept}

@@ -1,8 +1,7 @@
 -- `line::traffic::enquire` meets its contract. Assumes nothing.
-use mathlib.Core.Path.{_∙_}
 use native.Mathlib.Omega.{arith}
 use Rattle.line.proofs.Shapes.{shape-within}
-use Rattle.line.proofs.Sends.{has-header, has-rows, within-kept, rows-within}
+use Rattle.line.proofs.Sends.{has-header, within-kept, rows-within}
 use Rattle.line.proofs.Outcomes.{no-answer, refused, answered-by}
 use borrow.Author.Needs.{needs}
 use Rattle.line.proofs.traffic.enquire.Statement.{statement}
