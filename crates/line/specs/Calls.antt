@@ -9,6 +9,7 @@ use Rattle.card.specs.declared.row.Reading.{Reading}
 use Rattle.card.specs.declared.numbers.Cases.{Cases}
 use Rattle.line.specs.declared.calls.Interrupting.{Interrupting}
 use Rattle.card.specs.Words.{pick}
+use Rattle.card.specs.CaseFields.{with-value, with-notready, with-room}
 use Rattle.card.specs.Numbers.{none, numberOf, placed}
 use Rattle.card.specs.Row.{onLine}
 use Rattle.card.specs.Registers.{interrupt, writesId, afterWrite}
@@ -68,22 +69,7 @@ netAfterReset net k = pick (eqb (placeNumber net k) 0) (settled (setRow net k (r
 
 -- "5 NOTREADY: .. timer on a row not on line"
 abbrev pub offLine : Bool → Cases
-offLine b = record {
-  shape = false;
-  row = false;
-  register = false;
-  value = false;
-  notready = b;
-  direction = false;
-  busy = false;
-  online = false;
-  page = false;
-  duplicate = false;
-  holder = false;
-  alone = false;
-  room = false;
-  order = false;
-}
+offLine b = with-notready b none
 
 unfoldable pub timerNumber : List ℕ → ℕ → ℕ
 timerNumber net k = numberOf (placed (not (shape net)) (leb (rows net) k) (offLine (not (onLineAt net k))))
@@ -114,22 +100,7 @@ freshNet n = mark ++ (1 ∷ n ∷ replicate 12 0) ++ freshRows n
 
 -- "4 VALUE: fresh n not 1-60"; "13 ROOM: fresh .. network not of exact length"
 abbrev pub freshCases : (value room : Bool) → Cases
-freshCases value room = record {
-  shape = false;
-  row = false;
-  register = false;
-  value = value;
-  notready = false;
-  direction = false;
-  busy = false;
-  online = false;
-  page = false;
-  duplicate = false;
-  holder = false;
-  alone = false;
-  room = room;
-  order = false;
-}
+freshCases value room = with-value value (with-room room none)
 
 unfoldable pub freshNumber : List ℕ → ℕ → ℕ
 freshNumber net n = numberOf (freshCases (eqb n 0 || ltb rowLimit n) (not (eqb (length net) (rowStart n))))

@@ -10,7 +10,8 @@ use Rattle.line.specs.declared.traffic.Outcome.{Outcome}
 use Rattle.line.specs.declared.step.Answer.{Answer}
 use Rattle.line.specs.declared.step.Answer.the-variants.{Refused, Quiet, Recovered, Passed, Unanswered, TokenLost, Held}
 use Rattle.card.specs.Words.{pick}
-use Rattle.card.specs.Numbers.{numberOf}
+use Rattle.card.specs.CaseFields.{with-shape, with-value, with-holder}
+use Rattle.card.specs.Numbers.{none, numberOf}
 use Rattle.card.specs.Events.{risenNid}
 use Rattle.line.specs.Network.{rows, phase, holder, LOST, PASS, TAKEN, turned, regsAt, onLineAt, nodeOf, topId, shape}
 use Rattle.line.specs.Traffic.{Turn, onRow, happened, takenTurn}
@@ -54,22 +55,7 @@ stepTurn net fault =
 
 -- "4 VALUE: fault above 3"; "11 HOLDER: line step in PASS or TAKEN, holder not on line"
 abbrev pub stepCases : (shape value holder : Bool) → Cases
-stepCases shape value holder = record {
-  shape = shape;
-  row = false;
-  register = false;
-  value = value;
-  notready = false;
-  direction = false;
-  busy = false;
-  online = false;
-  page = false;
-  duplicate = false;
-  holder = holder;
-  alone = false;
-  room = false;
-  order = false;
-}
+stepCases shape value holder = with-shape shape (with-value value (with-holder holder none))
 
 unfoldable pub stepNumber : List ℕ → ℕ → ℕ
 stepNumber net fault = numberOf (stepCases (not (shape net)) (ltb 3 fault) (not (eqb (phase net) LOST) && not (onLineAt net (holder net))))
