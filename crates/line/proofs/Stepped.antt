@@ -1,6 +1,6 @@
 -- The public step: its refusals, and the step of a network that SHAPE does not refuse.
 -- Assumes nothing.
-use mathlib.Core.Path.{_≡_, _∙_}
+use mathlib.Core.Path.{_≡_, refl, sym, _∙_}
 use mathlib.Core.Bool.{Bool, true, false, not, _&&_}
 use mathlib.Core.List.{List}
 use mathlib.Core.Logic.{⊎-elim}
@@ -14,10 +14,11 @@ use Rattle.line.specs.declared.step.Answer.{Answer}
 use Rattle.line.specs.declared.step.Answer.the-variants.{Refused}
 use Rattle.card.specs.Row.{onLine}
 use Rattle.card.specs.Numbers.{numberOf, placed}
-use Rattle.card.proofs.Bools.{cases}
+use Rattle.card.proofs.Bools.{cases, pick-of}
 use Rattle.card.proofs.Order.{placed-shape}
-use Rattle.line.specs.Network.{rows, phase, holder, LOST, regsAt, onLineAt, shape}
-use Rattle.line.specs.Step.{stepCases, stepNumber, stepTurn, step}
+use Rattle.line.specs.Network.{rows, phase, holder, LOST, PASS, regsAt, onLineAt, topId, shape}
+use Rattle.line.specs.Traffic.{Turn}
+use Rattle.line.specs.Step.{destroyed, taker, lostTurn, passTurn, stepCases, stepNumber, stepTurn, step, answerNumber}
 use Rattle.line.proofs.Shapes.{shape-rows, shape-holder, shape-lost}
 
 -- in every phase the holder's byte names a row
@@ -50,3 +51,20 @@ module _ (net : List ℕ) (fault : ℕ) where
         → (a ≡ step net fault .answer) × (y ≡ step net fault .after)
     unfolding step
     steps z a y e = (rw (← number-is, eq-eqb _ _ z) (e .0), rw (← number-is, eq-eqb _ _ z) (e .1))
+
+-- ---- the number of what a step answers is that of its cases
+abbrev Done : Turn Answer → Type 0
+Done t = answerNumber (t .answer) ≡ 0
+
+answer-done : (net : List ℕ) (fault : ℕ) → Done (stepTurn net fault)
+unfolding stepTurn lostTurn passTurn
+answer-done net fault =
+    pick-of Done (eqb (phase net) LOST) (λ _. pick-of Done (eqb (topId net (rows net)) 0) (λ _. refl) (λ _. refl))
+    (λ _. pick-of Done (eqb (phase net) PASS)
+    (λ _. pick-of Done (destroyed fault) (λ _. refl) (λ _. pick-of Done (ltb (taker net) (rows net)) (λ _. refl) (λ _. refl))) (λ _. refl))
+
+pub answer-number : (net : List ℕ) (fault : ℕ) → answerNumber (step net fault .answer) ≡ stepNumber net fault
+unfolding step
+answer-number net fault =
+    pick-of (λ (t : Turn Answer). answerNumber (t .answer) ≡ stepNumber net fault) (eqb (stepNumber net fault) 0)
+    (λ e. answer-done net fault ∙ sym (eqb-true _ _ e)) (λ _. refl)

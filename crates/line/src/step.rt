@@ -3,7 +3,7 @@ ghost use mathlib.Core.Path.{_≡_};
 ghost use mathlib.Core.Bool.{true};
 ghost use Prim.Native.Nat.{_<_};
 ghost use Rattle.line.specs.Network.{rows, holder, shape};
-ghost use Rattle.line.specs.Step.{lostTurn, passTurn, stepTurn, step};
+ghost use Rattle.line.specs.Step.{answerNumber, lostTurn, passTurn, stepTurn, step};
 use crate::network::LOST;
 use crate::network::PASS;
 use crate::network::TAKEN;
@@ -30,6 +30,23 @@ pub enum Answer {
     Unanswered(u8),
     TokenLost,
     Held(Outcome),
+}
+
+impl Answer {
+    // The answer's number in the table of refusals: 0, DONE, unless it is a refusal.
+    pub fn number(self) -> u8
+        ensures { λ r. ⌜ r ≡ answerNumber self ⌝ }
+    {
+        match self {
+            Answer::Refused(number) => number,
+            Answer::Quiet => 0,
+            Answer::Recovered(_) => 0,
+            Answer::Passed(_) => 0,
+            Answer::Unanswered(_) => 0,
+            Answer::TokenLost => 0,
+            Answer::Held(_) => 0,
+        }
+    }
 }
 
 fn lost(net: &mut [u8]) -> Answer
