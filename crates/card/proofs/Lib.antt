@@ -17,3 +17,4 @@ pub mod Pages
 pub mod Stays
 pub mod Kept
 pub mod Traffic
+pub mod PacketLaws

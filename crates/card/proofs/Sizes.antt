@@ -81,7 +81,7 @@ long-most a b l = split (leb 3 a) (eqb a 0) (leb 4 b) l
     split false true v false = omega arith
 
 -- COUNT is a byte
-count-byte : (a b : ℕ) (l : Bool) → a < 256 → b < 256 → dataAt (shapeOf a b l) < 256
+pub count-byte : (a b : ℕ) (l : Bool) → a < 256 → b < 256 → dataAt (shapeOf a b l) < 256
 unfolding shapeOf
 count-byte a b l h k = split (leb 3 a) (eqb a 0 && l && leb 4 b)
   where

@@ -21,39 +21,46 @@ module _ (f : ℕ → List ℕ → List ℕ) (net : List ℕ) where
   unfolding eachRow
   eachRow-more k = rw add-one
 
-  module _ (keeps : (k : ℕ) (r : List ℕ) → length r ≡ rowBytes → length (f k r) ≡ rowBytes) where
-    pub length-eachRow : (n : ℕ) → rowStart n ≤ length net → length (eachRow f net n) ≡ length net
-    unfolding eachRow
-    length-eachRow zero h = refl
-    length-eachRow (suc n) h =
-        let l = length-eachRow n (omega arith) in
-        length-setRow (eachRow f net n) n _ (omega (arith, l)) (keeps n _ (length-rowAt (eachRow f net n) n (omega (arith, l)))) ∙ l
+  -- the first n rows are each as f leaves it, and all else is as it was
+  pub record Reached (n : ℕ) : Type 0 where
+    pub long : length (eachRow f net n) ≡ length net
+    pub header : (x : ℕ) → x < headerBytes → getD (eachRow f net n) x 0 ≡ getD net x 0
+    pub past : (j : ℕ) → n ≤ j → rowStart j + rowBytes ≤ length net → rowAt (eachRow f net n) j ≡ rowAt net j
+    pub row : (j : ℕ) → j < n → rowAt (eachRow f net n) j ≡ f j (rowAt net j)
 
-    pub eachRow-header : (n x : ℕ) → rowStart n ≤ length net → x < headerBytes → getD (eachRow f net n) x 0 ≡ getD net x 0
-    unfolding eachRow
-    eachRow-header zero x h l = refl
-    eachRow-header (suc n) x h l =
-        let m = length-eachRow n (omega arith) in
-        setRow-header (eachRow f net n) n _ (omega (arith, m)) (keeps n _ (length-rowAt (eachRow f net n) n (omega (arith, m)))) x l
-        ∙ eachRow-header n x (omega arith) l
+  -- so it is where f keeps the length of these rows
+  pub reached : (n : ℕ) → rowStart n ≤ length net → ((k : ℕ) → k < n → length (f k (rowAt net k)) ≡ rowBytes) → Reached n
+  unfolding eachRow
+  reached zero h keeps = record { long = refl; header = λ x l. refl; past = λ j l b. refl; row = λ j l. absurd (not-suc-le-zero l) }
+  reached (suc n) h keeps =
+      let d = reached n (omega arith) (λ k l. keeps k (omega arith)) in
+      let m = d .long in
+      let b : rowStart n + rowBytes ≤ length (eachRow f net n) = omega arith in
+      let e : f n (rowAt (eachRow f net n) n) ≡ f n (rowAt net n) = ap (f n) (d .past n (omega arith) (omega arith)) in
+      let w : length (f n (rowAt (eachRow f net n) n)) ≡ rowBytes = ap length e ∙ keeps n (omega arith) in
+      record {
+        long = length-setRow (eachRow f net n) n _ b w ∙ m;
+        header = λ x l. setRow-header (eachRow f net n) n _ b w x l ∙ d .header x l;
+        past = λ j l hj. rowAt-setRow-other (eachRow f net n) n _ b w j (λ z. omega arith) (omega arith) ∙ d .past j (omega arith) hj;
+        row = λ j l. ⊎-elim (λ z. rw z (rowAt-setRow (eachRow f net n) n _ b w ∙ e))
+            (λ a. rowAt-setRow-other (eachRow f net n) n _ b w j (λ z. omega arith) (omega arith) ∙ d .row j a)
+            (eq-or-lt-of-le (le-of-suc-le-suc l));
+      }
+
+  -- a function that keeps the length of every row
+  module _ (keeps : (k : ℕ) (r : List ℕ) → length r ≡ rowBytes → length (f k r) ≡ rowBytes) (n : ℕ) where
+    all-reached : rowStart n ≤ length net → Reached n
+    all-reached h = reached n h (λ k l. keeps k (rowAt net k) (length-rowAt net k (omega arith)))
+
+    pub length-eachRow : rowStart n ≤ length net → length (eachRow f net n) ≡ length net
+    length-eachRow h = all-reached h .long
+
+    pub eachRow-header : (x : ℕ) → rowStart n ≤ length net → x < headerBytes → getD (eachRow f net n) x 0 ≡ getD net x 0
+    eachRow-header x h l = all-reached h .header x l
 
     -- a row that is not reached is as it was
-    pub eachRow-past : (n j : ℕ) → rowStart n ≤ length net → n ≤ j → rowStart j + rowBytes ≤ length net → rowAt (eachRow f net n) j ≡ rowAt net j
-    unfolding eachRow
-    eachRow-past zero j h l hj = refl
-    eachRow-past (suc n) j h l hj =
-        let m = length-eachRow n (omega arith) in
-        rowAt-setRow-other (eachRow f net n) n _ (omega (arith, m)) (keeps n _ (length-rowAt (eachRow f net n) n (omega (arith, m)))) j
-        (λ e. omega arith) (omega (arith, m))
-        ∙ eachRow-past n j (omega arith) (omega arith) hj
+    pub eachRow-past : (j : ℕ) → rowStart n ≤ length net → n ≤ j → rowStart j + rowBytes ≤ length net → rowAt (eachRow f net n) j ≡ rowAt net j
+    eachRow-past j h l hj = all-reached h .past j l hj
 
-    pub eachRow-row : (n j : ℕ) → rowStart n ≤ length net → j < n → rowAt (eachRow f net n) j ≡ f j (rowAt net j)
-    unfolding eachRow
-    eachRow-row zero j h l = absurd (not-suc-le-zero l)
-    eachRow-row (suc n) j h l =
-        let m = length-eachRow n (omega arith) in
-        let w = keeps n _ (length-rowAt (eachRow f net n) n (omega (arith, m))) in
-        ⊎-elim
-        (λ e. rw e (rowAt-setRow (eachRow f net n) n _ (omega (arith, m)) w ∙ ap (f n) (eachRow-past n n (omega arith) (omega arith) (omega arith))))
-        (λ b. rowAt-setRow-other (eachRow f net n) n _ (omega (arith, m)) w j (λ e. omega arith) (omega (arith, m)) ∙ eachRow-row n j (omega arith) b)
-        (eq-or-lt-of-le (le-of-suc-le-suc l))
+    pub eachRow-row : (j : ℕ) → rowStart n ≤ length net → j < n → rowAt (eachRow f net n) j ≡ f j (rowAt net j)
+    eachRow-row j h l = all-reached h .row j l

@@ -14,6 +14,7 @@ pub mod RowsKeep
 pub mod SettledKeep
 pub mod CallsKeep
 pub mod Carry
+pub mod Became
 pub mod StepsKeep
 pub mod Sends
 pub mod Outcomes
@@ -21,3 +22,5 @@ pub mod Tries
 pub mod Turns
 pub mod Stepped
 pub mod OneOrder
+pub mod TrafficKeep
+pub mod StepShape

@@ -44,7 +44,7 @@ pub length-rowAt : (net : List ℕ) (k : ℕ) → rowStart k + rowBytes ≤ leng
 unfolding rowAt
 length-rowAt net k h = length-take-le rowBytes (drop (rowStart k) net) (simp length-drop (omega arith))
 
-getD-rowAt : (net : List ℕ) (k i : ℕ) → i < rowBytes → getD (rowAt net k) i 0 ≡ getD net (rowStart k + i) 0
+pub getD-rowAt : (net : List ℕ) (k i : ℕ) → i < rowBytes → getD (rowAt net k) i 0 ≡ getD net (rowStart k + i) 0
 unfolding rowAt
 getD-rowAt net k i l = getD-take rowBytes (drop (rowStart k) net) i 0 l ∙ getD-drop (rowStart k) net i 0
 

@@ -11,10 +11,10 @@ use lib.ListN.{length, getD}
 use borrow.Author.Tests.{eqb-true, eqb-false}
 use Rattle.card.specs.Row.{rowBytes, regsOf, onLine, wellFormed}
 use Rattle.card.proofs.Bools.{cases}
-use Rattle.line.specs.Network.{headerBytes, rows, phase, holder, LOST, turned, rowStart, rowAt, setRow, eachRow, regsAt, onLineAt, isNode, shape}
+use Rattle.line.specs.Network.{headerBytes, rows, phase, holder, LOST, turned, rowAt, setRow, eachRow, regsAt, onLineAt, isNode, shape}
 use Rattle.line.proofs.Folds.{clash}
 use Rattle.line.proofs.Networks.{length-setRow, setRow-header, rowAt-setRow, rowAt-setRow-other, length-turned, rowAt-turned, turned-other, rows-turned, phase-turned, holder-turned}
-use Rattle.line.proofs.EachRow.{length-eachRow, eachRow-header, eachRow-row}
+use Rattle.line.proofs.EachRow.{reached}
 use Rattle.line.proofs.Nodes.{online-same, node-of}
 use Rattle.line.proofs.Headers.{header-kept}
 use Rattle.line.proofs.Shapes.{Held, shape-header, shape-length, shape-within, shape-row, shape-row-length, shape-ids, shape-phase, shape-holder, shape-lost, shape-of}
@@ -28,43 +28,65 @@ pub record Kept (r s : List ℕ) : Type 0 where
 pub kept-same : (r : List ℕ) → wellFormed r ≡ true → Kept r r
 kept-same r w = record { well = w; id = refl; online = refl }
 
--- the header is as it was, and each row is kept
-pub shape-same : (net new : List ℕ) → shape net ≡ true → length new ≡ length net
-    → ((x : ℕ) → x < headerBytes → getD new x 0 ≡ getD net x 0) → ((k : ℕ) → k < rows net → Kept (rowAt net k) (rowAt new k)) → shape new ≡ true
+-- what a network became: its header is as it was, and each row is kept
+pub record Became (net new : List ℕ) : Type 0 where
+  pub long : length new ≡ length net
+  pub header : (x : ℕ) → x < headerBytes → getD new x 0 ≡ getD net x 0
+  pub row : (k : ℕ) → k < rows net → Kept (rowAt net k) (rowAt new k)
+
+pub shape-became : (net new : List ℕ) → shape net ≡ true → Became net new → shape new ≡ true
 unfolding onLineAt
-shape-same net new s l e q =
-    let n : rows new ≡ rows net = e 3 (lit< tt) in
-    let ph : phase new ≡ phase net = e 4 (lit< tt) in
-    let ho : holder new ≡ holder net = e 5 (lit< tt) in
-    let same : (k : ℕ) → k < rows net → onLineAt new k ≡ onLineAt net k = λ k b. q k b .online in
+shape-became net new s c =
+    let n : rows new ≡ rows net = c .header 3 (lit< tt) in
+    let ph : phase new ≡ phase net = c .header 4 (lit< tt) in
+    let ho : holder new ≡ holder net = c .header 5 (lit< tt) in
+    let same : (k : ℕ) → k < rows net → onLineAt new k ≡ onLineAt net k = λ k b. c .row k b .online in
     shape-of new
-    (header-kept net new (shape-header net s) l (λ x b u v. e x b) (omega (arith, shape-phase net s)))
-    (λ k b. q k (omega arith) .well)
+    (header-kept net new (shape-header net s) (c .long) (λ x b u v. c .header x b) (omega (arith, shape-phase net s)))
+    (λ k b. c .row k (omega arith) .well)
     (λ j k bj bk p o i. let dj : j < rows net = omega arith in
     let dk : k < rows net = omega arith in
-    shape-ids net s j k dj dk (sym (same j dj) ∙ p) (sym (same k dk) ∙ o) (sym (q j dj .id) ∙ i ∙ q k dk .id))
+    shape-ids net s j k dj dk (sym (same j dj) ∙ p) (sym (same k dk) ∙ o) (sym (c .row j dj .id) ∙ i ∙ c .row k dk .id))
     (λ p. ho ∙ shape-lost net s (sym ph ∙ p))
     (λ p. let h = shape-holder net s (λ z. p (ph ∙ z)) in (omega arith, ap (onLineAt new) ho ∙ same (holder net) (h .0) ∙ h .1))
 
--- a function that keeps each well formed row, done to each row
+-- a function that keeps each row of this network, done to each row
+pub became-each : (f : ℕ → List ℕ → List ℕ) (net : List ℕ) → shape net ≡ true
+    → ((k : ℕ) → k < rows net → (length (f k (rowAt net k)) ≡ rowBytes) × Kept (rowAt net k) (f k (rowAt net k)))
+    → Became net (eachRow f net (rows net))
+became-each f net s q =
+    let d = reached f net (rows net) (omega (arith, shape-length net s)) (λ k l. q k l .0) in
+    record { long = d .long; header = d .header; row = λ k l. rw (d .row k l) (q k l .1) }
+
+pub shape-reached : (f : ℕ → List ℕ → List ℕ) (net : List ℕ) → shape net ≡ true
+    → ((k : ℕ) → k < rows net → length (f k (rowAt net k)) ≡ rowBytes) → ((k : ℕ) → k < rows net → Kept (rowAt net k) (f k (rowAt net k)))
+    → shape (eachRow f net (rows net)) ≡ true
+shape-reached f net s keeps q = shape-became net _ s (became-each f net s (λ k l. (keeps k l, q k l)))
+
+-- a function that keeps each well formed row
 pub shape-each : (f : ℕ → List ℕ → List ℕ) (net : List ℕ) → shape net ≡ true
     → ((k : ℕ) (r : List ℕ) → length r ≡ rowBytes → length (f k r) ≡ rowBytes)
     → ((k : ℕ) (r : List ℕ) → length r ≡ rowBytes → wellFormed r ≡ true → Kept r (f k r)) → shape (eachRow f net (rows net)) ≡ true
 shape-each f net s keeps q =
-    let b : rowStart (rows net) ≤ length net = omega (arith, shape-length net s) in
-    shape-same net (eachRow f net (rows net)) s (length-eachRow f net keeps (rows net) b) (λ x l. eachRow-header f net keeps (rows net) x b l)
-    (λ k l. rw (eachRow-row f net keeps (rows net) k b l) (q k (rowAt net k) (shape-row-length net s k l) (shape-row net s k l)))
+    shape-reached f net s (λ k l. keeps k (rowAt net k) (shape-row-length net s k l))
+    (λ k l. q k (rowAt net k) (shape-row-length net s k l) (shape-row net s k l))
 
 -- another row k, which keeps the one that was there
+pub became-put : (net : List ℕ) (k : ℕ) (r : List ℕ) → shape net ≡ true → k < rows net → length r ≡ rowBytes → Kept (rowAt net k) r
+    → Became net (setRow net k r)
+became-put net k r s l e q =
+    let b = shape-within net s k l in record {
+      long = length-setRow net k r b e;
+      header = setRow-header net k r b e;
+      row = λ j lj. ⊎-elim
+          (λ (t : eqb j k ≡ true). rw (eqb-true j k t, rowAt-setRow net k r b e) q)
+          (λ (t : eqb j k ≡ false). rw (rowAt-setRow-other net k r b e j (eqb-false j k t) (shape-within net s j lj)) (kept-same (rowAt net j) (shape-row net s j lj)))
+          (cases (eqb j k));
+    }
+
 pub shape-put : (net : List ℕ) (k : ℕ) (r : List ℕ) → shape net ≡ true → k < rows net → length r ≡ rowBytes → Kept (rowAt net k) r
     → shape (setRow net k r) ≡ true
-shape-put net k r s l e q =
-    let b = shape-within net s k l in
-    shape-same net (setRow net k r) s (length-setRow net k r b e) (setRow-header net k r b e)
-    (λ j lj. ⊎-elim
-    (λ (t : eqb j k ≡ true). rw (eqb-true j k t, rowAt-setRow net k r b e) q)
-    (λ (t : eqb j k ≡ false). rw (rowAt-setRow-other net k r b e j (eqb-false j k t) (shape-within net s j lj)) (kept-same (rowAt net j) (shape-row net s j lj)))
-    (cases (eqb j k)))
+shape-put net k r s l e q = shape-became net _ s (became-put net k r s l e q)
 
 -- another row k, with another ID or on line otherwise: no other on-line row has its ID, and the holder stays on line
 pub shape-change : (net : List ℕ) (k : ℕ) (r : List ℕ) → shape net ≡ true → k < rows net → length r ≡ rowBytes → wellFormed r ≡ true
