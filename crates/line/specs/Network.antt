@@ -53,7 +53,7 @@ rowAt net k = take rowBytes (drop (rowStart k) net)
 unfoldable pub setRow : List ℕ → ℕ → List ℕ → List ℕ
 setRow net k r = take (rowStart k) net ++ (r ++ drop rowBytes (drop (rowStart k) net))
 
--- a row done to its registers, and a function of a row and its number done to each of the first n rows
+-- a function done to a row's registers, and a function of a row and its number done to each of the first n rows
 abbrev pub onRegs : (Regs → Regs) → List ℕ → List ℕ
 onRegs f r = putRegs r (f (regsOf r))
 
@@ -80,13 +80,14 @@ unfoldable pub topId : List ℕ → ℕ → ℕ
 topId net zero = 0
 topId net (suc k) = pick (onLineAt net k && ltb (topId net k) (regsAt net k .id)) (regsAt net k .id) (topId net k)
 
--- ---- "Well formed also means"
+-- ---- when a network is well formed: its header as above and its length that of its rows
 unfoldable pub headerFits : List ℕ → Bool
 headerFits net =
     all
     (eqb (getD net 0 0) (getD mark 0 0) ∷ eqb (getD net 1 0) (getD mark 1 0) ∷ eqb (getD net 2 0) 1 ∷ ltb 0 (rows net) ∷ leb (rows net) rowLimit
     ∷ ltb (phase net) 3 ∷ zeros (take 10 (drop 6 net)) ∷ eqb (length net) (rowStart (rows net)) ∷ [])
 
+-- each row is well formed by itself
 unfoldable pub rowsFit : List ℕ → ℕ → Bool
 rowsFit net n = every (λ k. wellFormed (rowAt net k)) n
 

@@ -72,3 +72,13 @@ answerNumber (Passed r) = 0
 answerNumber (Unanswered i) = 0
 answerNumber TokenLost = 0
 answerNumber (Held o) = 0
+
+-- the row, or the ID, that an answer names; 0 where it names none
+abbrev pub answerValue : Answer → ℕ
+answerValue (Refused n) = 0
+answerValue Quiet = 0
+answerValue (Recovered r) = r
+answerValue (Passed r) = r
+answerValue (Unanswered i) = i
+answerValue TokenLost = 0
+answerValue (Held o) = 0

@@ -3,7 +3,7 @@ ghost use mathlib.Core.Path.{_≡_};
 ghost use mathlib.Core.Bool.{true};
 ghost use Prim.Native.Nat.{_<_};
 ghost use Rattle.line.specs.Network.{rows, holder, shape};
-ghost use Rattle.line.specs.Step.{answerNumber, lostTurn, passTurn, stepTurn, step};
+ghost use Rattle.line.specs.Step.{answerNumber, answerValue, lostTurn, passTurn, stepTurn, step};
 use crate::network::LOST;
 use crate::network::PASS;
 use crate::network::TAKEN;
@@ -43,6 +43,21 @@ impl Answer {
             Answer::Recovered(_) => 0,
             Answer::Passed(_) => 0,
             Answer::Unanswered(_) => 0,
+            Answer::TokenLost => 0,
+            Answer::Held(_) => 0,
+        }
+    }
+
+    // The row, or the ID, that the answer names; 0 where it names none.
+    pub fn value(self) -> usize
+        ensures { λ r. ⌜ r ≡ answerValue self ⌝ }
+    {
+        match self {
+            Answer::Refused(_) => 0,
+            Answer::Quiet => 0,
+            Answer::Recovered(row) => row,
+            Answer::Passed(row) => row,
+            Answer::Unanswered(id) => wide(id),
             Answer::TokenLost => 0,
             Answer::Held(_) => 0,
         }

@@ -1,0 +1,29 @@
+// Text on standard output. Bytes are two digits in hex; rows, registers, pages, faults and counts are decimal.
+use libc::STDOUT_FILENO;
+
+const DIGITS: [u8; 16] = *b"0123456789ABCDEF";
+
+pub fn text(s: &[u8]) {
+    io::write_all(STDOUT_FILENO, s);
+}
+
+pub fn decimal(n: usize) {
+    io::print_decimal(STDOUT_FILENO, n as u64);
+}
+
+pub fn byte(b: u8) {
+    let digits = [DIGITS[(b / 16) as usize], DIGITS[(b % 16) as usize]];
+    text(&digits);
+}
+
+// A number after a space.
+pub fn number(n: usize) {
+    text(b" ");
+    decimal(n);
+}
+
+// A byte after a space.
+pub fn hex(b: u8) {
+    text(b" ");
+    byte(b);
+}
