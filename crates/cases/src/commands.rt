@@ -1,6 +1,5 @@
 // 2. Commands: the twenty legal bytes and some others, to four cards.
 use crate::cards;
-use crate::print;
 use card::row::ROW;
 
 const COMMANDS: [u8; 27] =

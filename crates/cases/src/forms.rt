@@ -1,6 +1,5 @@
 // 7. Well-formedness: a card with one byte changed.
 use crate::cards;
-use crate::print;
 use card::row;
 use card::row::ROW;
 ghost use Prim.Native.Nat.{_<_};

@@ -1,6 +1,5 @@
 // 6. The interrupt, by status and mask.
 use crate::cards;
-use crate::print;
 use card::row;
 
 const STATUSES: [u8; 7] = *b"\x91\x81\x84\x80\x04\x01\x00";

@@ -5,7 +5,6 @@ mod commands;
 mod forms;
 mod interrupts;
 mod packets;
-mod print;
 mod registers;
 mod resets;
 

@@ -1,6 +1,5 @@
 // 5. Packets: the data of a page, by its count bytes.
 use crate::cards;
-use crate::print;
 use card::packets;
 use card::row::REGISTERS;
 use card::row::ROW;

@@ -1,6 +1,5 @@
 // 3. Registers, and 4. The pointer: accesses in a row, each with its number and the registers after it.
 use crate::cards;
-use crate::print;
 use card::row;
 use card::row::ROW;
 

@@ -1,6 +1,5 @@
 // 1. A row: fresh, put on line, and reset.
 use crate::cards;
-use crate::print;
 use card::row::ROW;
 
 fn line(label: &[u8], row: &[u8; ROW]) {

@@ -1,5 +1,4 @@
 // The words of document 01 for what a call answers.
-use crate::print;
 use line::step::Answer;
 use line::traffic::Outcome;
 

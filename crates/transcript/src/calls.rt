@@ -3,7 +3,6 @@ use crate::answers;
 use crate::changes;
 use crate::network::NET;
 use crate::network::ROWS;
-use crate::print;
 use line::network::wide;
 
 pub fn fresh(net: &mut [u8; NET], rows: usize) {

@@ -1,7 +1,6 @@
 // Every byte that a call changed, with the value it has now: a line for the header and one for each row.
 use crate::network::NET;
 use crate::network::ROWS;
-use crate::print;
 use card::row::REGISTERS;
 use card::row::ROW;
 use line::network::HEADER;

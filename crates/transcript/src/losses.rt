@@ -2,7 +2,6 @@
 use crate::calls;
 use crate::network::NET;
 use crate::network::ROWS;
-use crate::print;
 use crate::rounds;
 
 fn destroyed(net: &mut [u8; NET]) {

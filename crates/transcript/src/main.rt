@@ -7,7 +7,6 @@ mod losses;
 mod network;
 mod opening;
 mod packets;
-mod print;
 mod recovery;
 mod refusals;
 mod rounds;

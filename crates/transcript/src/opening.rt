@@ -2,7 +2,6 @@
 use crate::calls;
 use crate::network::NET;
 use crate::network::ROWS;
-use crate::print;
 ghost use Prim.Native.Nat.{_<_};
 
 // Every call but fresh, to a network that is not well formed; SHAPE goes before what else is wrong.

@@ -1,7 +1,6 @@
 // A packet is put into a page of a row, by register writes that are printed as one line.
 use crate::changes;
 use crate::network::NET;
-use crate::print;
 use line::calls::write;
 
 // AUTO-INC, for writes: in the mode register beside the page.

@@ -2,7 +2,6 @@
 use crate::calls;
 use crate::network::NET;
 use crate::network::ROWS;
-use crate::print;
 use crate::rounds;
 
 // Row 3 has the highest ID, and so invites first. Row 4, off line, has the ID of row 1; rows 0 and 3 look for it. Fault

@@ -1,7 +1,6 @@
 // 4. Refusals of each kind, and what the smallest number wins over.
 use crate::calls;
 use crate::network::NET;
-use crate::print;
 
 fn rows(net: &mut [u8; NET]) {
     calls::read(net, 5, 0);

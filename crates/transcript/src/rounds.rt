@@ -2,7 +2,6 @@
 use crate::answers;
 use crate::changes;
 use crate::network::NET;
-use crate::print;
 use line::step::Answer;
 use line::step::step;
 

@@ -3,7 +3,6 @@
 use crate::calls;
 use crate::network::NET;
 use crate::packets;
-use crate::print;
 use crate::rounds;
 
 // The row gets the token.

@@ -1,4 +1,4 @@
-// Text on standard output. Bytes are two digits in hex; rows, registers, pages, faults and counts are decimal.
+// Text on standard output, for the programs. Bytes are two digits in hex; other numbers are decimal.
 use libc::STDOUT_FILENO;
 
 const DIGITS: [u8; 16] = *b"0123456789ABCDEF";
@@ -26,4 +26,25 @@ pub fn number(n: usize) {
 pub fn hex(b: u8) {
     text(b" ");
     byte(b);
+}
+
+// A space before each byte.
+pub fn bytes(s: &[u8]) {
+    for i in 0..s.len() {
+        hex(s[i]);
+    }
+}
+
+// A number at the right of a column of four.
+pub fn column(n: usize) {
+    if n < 1000 {
+        text(b" ");
+    }
+    if n < 100 {
+        text(b" ");
+    }
+    if n < 10 {
+        text(b" ");
+    }
+    decimal(n);
 }

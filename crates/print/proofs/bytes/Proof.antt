@@ -1,9 +1,9 @@
--- `cases::print::bytes` meets its contract: each index is below the length.
+-- `print::bytes` meets its contract: each index is below the length.
 -- Assumes nothing.
 use Prim.Native.Nat.{_≤_, _-_}
 use borrow.Author.Needs.{needs}
-use Rattle.cases.proofs.print.bytes.Statement.{statement}
-use Rattle.cases.proofs.print.bytes.Tie as tie
+use Rattle.print.proofs.bytes.Statement.{statement}
+use Rattle.print.proofs.bytes.Tie as tie
 
 abbrev Inv-loop : tie.InvT-loop
 Inv-loop s i₀ i-end i = i ≤ i-end
