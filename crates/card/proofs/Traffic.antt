@@ -14,7 +14,7 @@ use Rattle.card.specs.Words.{pick, clear, raise, lower}
 use Rattle.card.specs.Flags.{RI, TMA, TA}
 use Rattle.card.specs.Row.{rowBytes}
 use Rattle.card.specs.Packets.{pageBytes, pageAt}
-use Rattle.card.specs.Events.{sent, received, transmitting, receiving, transmitPage, receivePage, storable}
+use Rattle.card.specs.Events.{heard, sent, enquired, received, transmitting, receiving, transmitPage, receivePage, storable}
 use Rattle.card.proofs.Masks.{lower-other, raise-other, raise-sets}
 use Rattle.card.proofs.Fits.{Fit}
 
@@ -44,6 +44,15 @@ module _ (g : Regs) where
   pub received-transmitting : transmitting (received g) ≡ transmitting g
   unfolding transmitting received
   received-transmitting = raise-other TA RI (g .status) refl
+
+  -- an enquiry that no packet followed is heard of by its answer, or ends the transmit
+  pub enquired-nak : enquired g true ≡ heard g false
+  unfolding enquired
+  enquired-nak = refl
+
+  pub enquired-unanswered : enquired g false ≡ sent g false
+  unfolding enquired
+  enquired-unanswered = refl
 
   -- a packet that can be stored has room in the receive page
   pub receive-room : Fit g → receiving g ≡ true → (s : Shape) → storable g s ≡ true → pageAt (receivePage g) + pageBytes s ≤ rowBytes

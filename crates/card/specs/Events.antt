@@ -52,6 +52,10 @@ cancelled g = receiveCancelled (transmitCancelled g)
 unfoldable pub sent : Regs → Bool → Regs
 sent g acknowledged = with-status (raise TA (pick acknowledged (raise TMA (g .status)) (lower TMA (g .status)))) (with-transmit 0 g)
 
+-- an enquiry that no packet followed: "NAK, TA stays 0", and "RCVACT .. in the holder if ACK or NAK answered"; or "NoAnswer, TA = 1"
+unfoldable pub enquired : Regs → Bool → Regs
+enquired g nak = pick nak (heard g false) (sent g false)
+
 -- a transmit waits: TA is 0; the receiver is enabled: RI is 0
 unfoldable pub transmitting : Regs → Bool
 transmitting g = clear TA (g .status)

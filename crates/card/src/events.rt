@@ -1,6 +1,6 @@
 // Document 01, "One line step": what the line does to one card's registers, and what it asks of them.
 ghost use mathlib.Core.Path.{_≡_};
-ghost use Rattle.card.specs.Events.{burst, recovered, heard, answered, risenNid, transmitCancelled, receiveCancelled, cancelled, sent, received, transmitting, receiving, takesBroadcasts, transmitPage, receivePage, storable};
+ghost use Rattle.card.specs.Events.{burst, recovered, heard, answered, risenNid, transmitCancelled, receiveCancelled, cancelled, sent, enquired, received, transmitting, receiving, takesBroadcasts, transmitPage, receivePage, storable};
 use crate::numbers::choose;
 use crate::packets::Shape;
 use crate::regs::BROADCASTS;
@@ -29,9 +29,11 @@ impl Regs {
     pub fn recovered(self) -> Regs
         ensures { λ r. ⌜ r ≡ recovered self ⌝ }
     {
+        // The lap starts at the row's own ID, which it does not answer itself.
+        let first = self.id;
         let mut g = self;
         g.status = choose(self.awake(), self.status | RECON, self.status);
-        g.nid = choose(self.on_line(), self.id, self.nid);
+        g.nid = choose(self.on_line(), first, self.nid);
         g
     }
 
@@ -111,6 +113,16 @@ impl Regs {
         g.status = choose(acknowledged, self.status | TMA, self.status & !TMA) | TA;
         g.transmit = 0;
         g
+    }
+
+    // An enquiry of this card's own that no packet followed: NAK answered it, or nobody did.
+    pub fn enquired(self, nak: bool) -> Regs
+        ensures { λ r. ⌜ r ≡ enquired self nak ⌝ }
+    {
+        if nak {
+            return self.heard(false);
+        }
+        self.sent(false)
     }
 
     // The receive ends.

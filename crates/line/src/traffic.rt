@@ -75,7 +75,7 @@ fn enquire(net: &mut [u8], h: usize, page: usize, fault: usize, t: usize) -> Out
     let n = rows(net);
     if n <= t {
         happen(net, n, Event::Message(h, false));
-        let g = regs_at(net, h).sent(false);
+        let g = regs_at(net, h).enquired(false);
         put_regs(net, h, g);
         return Outcome::NoAnswer;
     }
@@ -83,7 +83,7 @@ fn enquire(net: &mut [u8], h: usize, page: usize, fault: usize, t: usize) -> Out
         return deliver(net, h, page, fault, t);
     }
     happen(net, n, Event::Message(h, false));
-    let g = regs_at(net, h).heard(false);
+    let g = regs_at(net, h).enquired(true);
     put_regs(net, h, g);
     Outcome::Nak
 }

@@ -1,5 +1,7 @@
 -- `line::traffic::enquire` meets its contract. Assumes nothing.
+use mathlib.Core.Path.{_∙_}
 use native.Mathlib.Omega.{arith}
+use Rattle.card.proofs.Traffic.{enquired-nak, enquired-unanswered}
 use Rattle.line.proofs.Shapes.{shape-within}
 use Rattle.line.proofs.Sends.{has-header, within-kept, rows-within}
 use Rattle.line.proofs.Outcomes.{no-answer, refused, answered-by}
@@ -35,7 +37,7 @@ returns c =
     let i = h .before .before in
     let n = i .before in
     let a = n .before .before .before .args in
-    no-answer (a .net .now) (a .h) (a .page) (a .fault) (a .t) _ (n .rows .ensures .0) (i .if1 .taken) _ (h .happen .ensures) _ (v .before .regs-at .ensures) _ (v .sent .ensures) _ (u .put-regs .ensures)
+    no-answer (a .net .now) (a .h) (a .page) (a .fault) (a .t) _ (n .rows .ensures .0) (i .if1 .taken) _ (h .happen .ensures) _ (v .before .regs-at .ensures) _ (v .enquired .ensures ∙ enquired-unanswered _) _ (u .put-regs .ensures)
 
 regs-at-requires-2 : tie.Need-regs-at-requires-2
 regs-at-requires-2 c κs =
@@ -87,7 +89,7 @@ returns-3 c =
     let i = w .before .before .before in
     let n = i .before in
     let a = n .before .before .before .args in
-    refused (a .net .now) (a .h) (a .page) (a .fault) (a .t) _ (n .rows .ensures .0) (i .if1 .left) _ (w .before .regs-at2 .ensures) _ (w .receiving .ensures) (j .if2 .left) _ (h .happen2 .ensures) _ (v .before .regs-at3 .ensures) _ (v .heard .ensures) _ (u .put-regs2 .ensures)
+    refused (a .net .now) (a .h) (a .page) (a .fault) (a .t) _ (n .rows .ensures .0) (i .if1 .left) _ (w .before .regs-at2 .ensures) _ (w .receiving .ensures) (j .if2 .left) _ (h .happen2 .ensures) _ (v .before .regs-at3 .ensures) _ (v .enquired2 .ensures ∙ enquired-nak _) _ (u .put-regs2 .ensures)
 
 pub enquire-spec : {M : Type 1} → statement M
 enquire-spec =
