@@ -1,7 +1,7 @@
 -- What each call and each event leaves alone, and what it changes: who the card is, its configuration, and whom it invites next.
 -- Assumes nothing.
-use mathlib.Core.Path.{_≡_, refl, _∙_}
-use mathlib.Core.Bool.{Bool, false}
+use mathlib.Core.Path.{_≡_, refl, sym, _∙_}
+use mathlib.Core.Bool.{Bool, true, false, true≢false}
 use Prim.Native.Nat.{ℕ, _+_, _%_}
 use borrow.Author.Tests.{eqb-true}
 use lib.Dec.{eqb}
@@ -44,6 +44,11 @@ module _ (g h : Regs) (i : h .id ≡ g .id) (c : h .configuration ≡ g .configu
   pub on-line-same : onLine h ≡ onLine g
   unfolding onLine
   on-line-same = rw (awake-same, c)
+
+-- the ID of a card on line is not 0
+pub on-line-id : (g : Regs) → onLine g ≡ true → g .id ≡ 0 → ⊥
+unfolding onLine awake
+on-line-id g o e = true≢false (sym o ∙ rw e)
 
 -- ---- register accesses
 pub reset-off : onLine hardwareReset ≡ false

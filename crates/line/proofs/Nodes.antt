@@ -3,7 +3,7 @@
 use mathlib.Core.Path.{_≡_, refl, _∙_, ap}
 use mathlib.Core.Bool.{Bool, true, false, not, _&&_}
 use mathlib.Core.List.{List}
-use Prim.Native.Nat.{ℕ, _+_, _<_}
+use Prim.Native.Nat.{ℕ, _+_, _≤_, _<_}
 use native.Mathlib.Numerals.{add-one}
 use lib.Dec.{eqb, ltb}
 use borrow.Author.Tests.{eqb-true, eqb-false, eq-eqb, ne-eqb, not-true}
@@ -11,9 +11,10 @@ use Rattle.card.specs.declared.regs.Regs.{Regs}
 use Rattle.card.specs.Words.{pick}
 use Rattle.card.specs.Row.{onLine}
 use Rattle.card.proofs.Bools.{and-left, and-right}
+use Rattle.card.proofs.Kept.{on-line-id}
 use Rattle.line.specs.Folds.{seek}
 use Rattle.line.specs.Network.{rowAt, regsAt, onLineAt, isNode, nodeOf, topId}
-use Rattle.line.proofs.Folds.{seek-found, seek-least}
+use Rattle.line.proofs.Folds.{seek-at-most, seek-found, seek-least}
 
 and-true : (b : Bool) → (b && true) ≡ b
 and-true true = refl
@@ -61,6 +62,11 @@ module _ (net : List ℕ) (k i : ℕ) (t : isNode net i k ≡ true) where
   unfolding isNode
   node-id = eqb-true _ _ (and-right (onLineAt net k) (eqb (regsAt net k .id) i) t)
 
+-- the ID of a row on line is not 0
+pub online-id : (net : List ℕ) (k : ℕ) → onLineAt net k ≡ true → regsAt net k .id ≡ 0 → ⊥
+unfolding onLineAt
+online-id net k o e = on-line-id (regsAt net k) o e
+
 -- what the search for an ID finds, and what it says where it finds nothing
 module _ (net : List ℕ) (i x n : ℕ) where
   pub nodeOf-found : nodeOf net i x n < n → (isNode net i (nodeOf net i x n) ≡ true) × (nodeOf net i x n ≡ x → ⊥)
@@ -69,6 +75,10 @@ module _ (net : List ℕ) (i x n : ℕ) where
       let t = seek-found (other net i x) n h in
       let k = seek (other net i x) n in
       (and-left (isNode net i k) (not (eqb k x)) t, eqb-false k x (not-true (eqb k x) (and-right (isNode net i k) (not (eqb k x)) t)))
+
+  pub nodeOf-most : nodeOf net i x n ≤ n
+  unfolding nodeOf
+  nodeOf-most = seek-at-most (other net i x) n
 
   pub nodeOf-fails : nodeOf net i x n ≡ n → (j : ℕ) → j < n → (j ≡ x → ⊥) → isNode net i j ≡ false
   unfolding nodeOf
