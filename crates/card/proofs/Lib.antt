@@ -18,3 +18,4 @@ pub mod Stays
 pub mod Kept
 pub mod Traffic
 pub mod PacketLaws
+pub mod Rams
