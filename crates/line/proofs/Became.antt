@@ -8,21 +8,44 @@ use native.Mathlib.Omega.{arith}
 use lib.Dec.{lit<}
 use Rattle.card.specs.declared.regs.Regs.{Regs}
 use Rattle.card.specs.Row.{regsOf, onLine, wellFormed}
+use Rattle.card.proofs.PacketLaws.{Ram}
 use Rattle.line.specs.Network.{rows, phase, holder, rowAt, onLineAt, shape}
 use Rattle.line.proofs.Shapes.{shape-row}
-use Rattle.line.proofs.ShapesKept.{Kept, kept-same, Became}
+use Rattle.line.proofs.ShapesKept.{Kept, kept-same, Became, shape-became}
 
-pub kept-then : {r s t : List ℕ} → Kept r s → Kept s t → Kept r t
-kept-then a b = record { well = b .well; id = b .id ∙ a .id; online = b .online ∙ a .online }
+-- ---- a row: kept, and with a RAM of bytes where it had one and its ID is a byte; and with the NID that it had
+pub record Moved (r s : List ℕ) : Type 0 where
+  pub kept : Kept r s
+  pub ram : regsOf r .id < 256 → Ram r → Ram s
+
+pub record Still (r s : List ℕ) : Type 0 where
+  pub moved : Moved r s
+  pub nid : regsOf s .nid ≡ regsOf r .nid
+
+pub moved-same : (r : List ℕ) → wellFormed r ≡ true → Moved r r
+moved-same r w = record { kept = kept-same r w; ram = λ i b. b }
+
+pub still-same : (r : List ℕ) → wellFormed r ≡ true → Still r r
+still-same r w = record { moved = moved-same r w; nid = refl }
 
 -- a row whose registers are as they were
-pub kept-regs : (r s : List ℕ) → wellFormed s ≡ true → regsOf s ≡ regsOf r → Kept r s
-kept-regs r s w e = record { well = w; id = ap (λ (g : Regs). g .id) e; online = ap onLine e }
+pub still-regs : (r s : List ℕ) → wellFormed s ≡ true → regsOf s ≡ regsOf r → (regsOf r .id < 256 → Ram r → Ram s) → Still r s
+still-regs r s w e b = record {
+  moved = record { kept = record { well = w; id = ap (λ (g : Regs). g .id) e; online = ap onLine e }; ram = b };
+  nid = ap (λ (g : Regs). g .nid) e;
+}
 
-pub became-same : (net : List ℕ) → shape net ≡ true → Became net net
-became-same net s = record { long = refl; header = λ x l. refl; row = λ k l. kept-same (rowAt net k) (shape-row net s k l) }
+kept-after : {r s t : List ℕ} → Kept r s → Kept s t → Kept r t
+kept-after a b = record { well = b .well; id = b .id ∙ a .id; online = b .online ∙ a .online }
 
-module _ {net new : List ℕ} (c : Became net new) where
+moved-after : {r s t : List ℕ} → Moved r s → Moved s t → Moved r t
+moved-after a b = record { kept = kept-after (a .kept) (b .kept); ram = λ i x. b .ram (rw (a .kept .id) i) (a .ram i x) }
+
+pub still-after : {r s t : List ℕ} → Still r s → Still s t → Still r t
+still-after a b = record { moved = moved-after (a .moved) (b .moved); nid = b .nid ∙ a .nid }
+
+-- ---- a network
+module _ {R : List ℕ → List ℕ → Type 0} {net new : List ℕ} (c : Became R net new) where
   pub became-rows : rows new ≡ rows net
   became-rows = c .header 3 (lit< tt)
 
@@ -32,13 +55,32 @@ module _ {net new : List ℕ} (c : Became net new) where
   pub became-holder : holder new ≡ holder net
   became-holder = c .header 5 (lit< tt)
 
-  pub became-online : (k : ℕ) → k < rows net → onLineAt new k ≡ onLineAt net k
-  unfolding onLineAt
-  became-online k l = c .row k l .online
+  became-map : {S : List ℕ → List ℕ → Type 0} → ((r s : List ℕ) → R r s → S r s) → Became S net new
+  became-map f = record { long = c .long; header = c .header; row = λ k l. f (rowAt net k) (rowAt new k) (c .row k l) }
 
-  pub became-then : {last : List ℕ} → Became new last → Became net last
-  became-then d = record {
+  became-then : {last : List ℕ} → ((r s t : List ℕ) → R r s → R s t → R r t) → Became R new last → Became R net last
+  became-then after d = record {
     long = d .long ∙ c .long;
     header = λ x l. d .header x l ∙ c .header x l;
-    row = λ k l. kept-then (c .row k l) (d .row k (omega (arith, became-rows)));
+    row = λ k l. after _ _ _ (c .row k l) (d .row k (omega (arith, became-rows)));
   }
+
+module _ {net new : List ℕ} where
+  pub moved-then : {last : List ℕ} → Became Moved net new → Became Moved new last → Became Moved net last
+  moved-then c d = became-then c (λ r s t. moved-after) d
+
+  pub still-then : {last : List ℕ} → Became Still net new → Became Still new last → Became Still net last
+  still-then c d = became-then c (λ r s t. still-after) d
+
+  pub still-moved : Became Still net new → Became Moved net new
+  still-moved c = became-map c (λ r s q. q .moved)
+
+  pub shape-moved : shape net ≡ true → Became Moved net new → shape new ≡ true
+  shape-moved s c = shape-became net new s (became-map c (λ r s q. q .kept))
+
+  pub shape-still : shape net ≡ true → Became Still net new → shape new ≡ true
+  shape-still s c = shape-moved s (still-moved c)
+
+  pub moved-online : Became Moved net new → (k : ℕ) → k < rows net → onLineAt new k ≡ onLineAt net k
+  unfolding onLineAt
+  moved-online c k l = c .row k l .kept .online

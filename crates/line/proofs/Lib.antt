@@ -15,6 +15,8 @@ pub mod SettledKeep
 pub mod CallsKeep
 pub mod Carry
 pub mod Became
+pub mod Alike
+pub mod RegsKeep
 pub mod StepsKeep
 pub mod Sends
 pub mod Outcomes

@@ -28,13 +28,13 @@ pub record Kept (r s : List ℕ) : Type 0 where
 pub kept-same : (r : List ℕ) → wellFormed r ≡ true → Kept r r
 kept-same r w = record { well = w; id = refl; online = refl }
 
--- what a network became: its header is as it was, and each row is kept
-pub record Became (net new : List ℕ) : Type 0 where
+-- what a network became: its header is as it was, and R holds of each row and what it became
+pub record Became (R : List ℕ → List ℕ → Type 0) (net new : List ℕ) : Type 0 where
   pub long : length new ≡ length net
   pub header : (x : ℕ) → x < headerBytes → getD new x 0 ≡ getD net x 0
-  pub row : (k : ℕ) → k < rows net → Kept (rowAt net k) (rowAt new k)
+  pub row : (k : ℕ) → k < rows net → R (rowAt net k) (rowAt new k)
 
-pub shape-became : (net new : List ℕ) → shape net ≡ true → Became net new → shape new ≡ true
+pub shape-became : (net new : List ℕ) → shape net ≡ true → Became Kept net new → shape new ≡ true
 unfolding onLineAt
 shape-became net new s c =
     let n : rows new ≡ rows net = c .header 3 (lit< tt) in
@@ -50,10 +50,10 @@ shape-became net new s c =
     (λ p. ho ∙ shape-lost net s (sym ph ∙ p))
     (λ p. let h = shape-holder net s (λ z. p (ph ∙ z)) in (omega arith, ap (onLineAt new) ho ∙ same (holder net) (h .0) ∙ h .1))
 
--- a function that keeps each row of this network, done to each row
-pub became-each : (f : ℕ → List ℕ → List ℕ) (net : List ℕ) → shape net ≡ true
-    → ((k : ℕ) → k < rows net → (length (f k (rowAt net k)) ≡ rowBytes) × Kept (rowAt net k) (f k (rowAt net k)))
-    → Became net (eachRow f net (rows net))
+-- a function done to each row of this network
+pub became-each : {R : List ℕ → List ℕ → Type 0} (f : ℕ → List ℕ → List ℕ) (net : List ℕ) → shape net ≡ true
+    → ((k : ℕ) → k < rows net → (length (f k (rowAt net k)) ≡ rowBytes) × R (rowAt net k) (f k (rowAt net k)))
+    → Became R net (eachRow f net (rows net))
 became-each f net s q =
     let d = reached f net (rows net) (omega (arith, shape-length net s)) (λ k l. q k l .0) in
     record { long = d .long; header = d .header; row = λ k l. rw (d .row k l) (q k l .1) }
@@ -71,22 +71,22 @@ shape-each f net s keeps q =
     shape-reached f net s (λ k l. keeps k (rowAt net k) (shape-row-length net s k l))
     (λ k l. q k (rowAt net k) (shape-row-length net s k l) (shape-row net s k l))
 
--- another row k, which keeps the one that was there
-pub became-put : (net : List ℕ) (k : ℕ) (r : List ℕ) → shape net ≡ true → k < rows net → length r ≡ rowBytes → Kept (rowAt net k) r
-    → Became net (setRow net k r)
-became-put net k r s l e q =
+-- another row k, where R holds of a row and itself
+pub became-put : {R : List ℕ → List ℕ → Type 0} (net : List ℕ) (k : ℕ) (r : List ℕ) → shape net ≡ true → k < rows net → length r ≡ rowBytes
+    → R (rowAt net k) r → ((j : ℕ) → j < rows net → R (rowAt net j) (rowAt net j)) → Became R net (setRow net k r)
+became-put net k r s l e q same =
     let b = shape-within net s k l in record {
       long = length-setRow net k r b e;
       header = setRow-header net k r b e;
       row = λ j lj. ⊎-elim
           (λ (t : eqb j k ≡ true). rw (eqb-true j k t, rowAt-setRow net k r b e) q)
-          (λ (t : eqb j k ≡ false). rw (rowAt-setRow-other net k r b e j (eqb-false j k t) (shape-within net s j lj)) (kept-same (rowAt net j) (shape-row net s j lj)))
+          (λ (t : eqb j k ≡ false). rw (rowAt-setRow-other net k r b e j (eqb-false j k t) (shape-within net s j lj)) (same j lj))
           (cases (eqb j k));
     }
 
 pub shape-put : (net : List ℕ) (k : ℕ) (r : List ℕ) → shape net ≡ true → k < rows net → length r ≡ rowBytes → Kept (rowAt net k) r
     → shape (setRow net k r) ≡ true
-shape-put net k r s l e q = shape-became net _ s (became-put net k r s l e q)
+shape-put net k r s l e q = shape-became net _ s (became-put net k r s l e q (λ j b. kept-same (rowAt net j) (shape-row net s j b)))
 
 -- another row k, with another ID or on line otherwise: no other on-line row has its ID, and the holder stays on line
 pub shape-change : (net : List ℕ) (k : ℕ) (r : List ℕ) → shape net ≡ true → k < rows net → length r ≡ rowBytes → wellFormed r ≡ true

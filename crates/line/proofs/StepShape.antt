@@ -1,6 +1,6 @@
--- One line step keeps SHAPE, and the number of rows.
+-- One line step keeps SHAPE, the number of rows and their IDs, who is on line, and the RAMs.
 -- Assumes nothing.
-use mathlib.Core.Path.{_≡_, refl, sym, _∙_}
+use mathlib.Core.Path.{_≡_, refl, sym}
 use mathlib.Core.Bool.{true, false, _&&_}
 use mathlib.Core.List.{List}
 use mathlib.Core.Logic.{⊎-elim}
@@ -12,17 +12,17 @@ use Rattle.line.specs.declared.passes.Event.the-variants.{Recovery, Mess
 use Rattle.line.specs.declared.step.Answer.{Answer}
 use Rattle.card.specs.Events.{risenNid}
 use Rattle.card.proofs.Bools.{cases, and-left, pick-of}
-use Rattle.line.specs.Network.{rows, phase, holder, LOST, PASS, TAKEN, turned, regsAt, onLineAt, isNode, nodeOf, topId, shape}
+use Rattle.line.specs.Network.{rows, phase, holder, LOST, PASS, TAKEN, regsAt, onLineAt, isNode, nodeOf, topId, shape}
 use Rattle.line.specs.Traffic.{Turn, happened}
 use Rattle.line.specs.Step.{destroyed, highest, lostTurn, invited, taker, passTurn, stepTurn, stepNumber, step}
 use Rattle.line.proofs.Folds.{clash, seek-at-most}
-use Rattle.line.proofs.Networks.{rows-turned}
 use Rattle.line.proofs.Nodes.{other, node-of, node-online, nodeOf-found, nodeOf-fails}
 use Rattle.line.proofs.Shapes.{Held, shape-holder}
-use Rattle.line.proofs.ShapesKept.{Became, shape-became, turned-lost, turned-held}
-use Rattle.line.proofs.Became.{became-rows, became-online, became-then}
-use Rattle.line.proofs.StepsKeep.{keeps-risen, became-onRow, became-happened}
-use Rattle.line.proofs.TrafficKeep.{Bytes, became-taken}
+use Rattle.line.proofs.Became.{became-rows, moved-then, still-moved, shape-moved}
+use Rattle.line.proofs.Alike.{Rams, Alike, alike-same, alike-moved, alike-lost, alike-held}
+use Rattle.line.proofs.RegsKeep.{keeps-risen}
+use Rattle.line.proofs.StepsKeep.{moved-onRow, moved-happened}
+use Rattle.line.proofs.TrafficKeep.{still-taken}
 
 -- ---- the highest ID is an on-line row's
 -- where no row is on line with it, nobody is on line
@@ -47,57 +47,45 @@ highest-held net ne =
     (λ j l. nodeOf-fails net top n n (omega (arith, ltb-false (highest net) n t, seek-at-most (other net top n) n)) j l (λ e. omega arith)))))
     (cases (ltb (highest net) n))
 
--- ---- a network that is well formed, of as many rows
-pub record Sound (net new : List ℕ) : Type 0 where
-  pub fits : shape new ≡ true
-  pub count : rows new ≡ rows net
-
-module _ (net : List ℕ) (s : shape net ≡ true) where
-  -- what the network became, with another phase: nobody holds, or a row that was on line
-  sound-lost : (new : List ℕ) → Became net new → Sound net (turned new LOST 0)
-  sound-lost new c = record { fits = turned-lost new (shape-became net new s c); count = rows-turned new LOST 0 ∙ became-rows c }
-
-  sound-held : (new : List ℕ) → Became net new → (p h : ℕ) → 0 < p → p < 3 → Held net h → Sound net (turned new p h)
-  sound-held new c p h a b d = record {
-    fits = turned-held new p h (shape-became net new s c) a b (omega (arith, became-rows c, d .0)) (became-online c h (d .0) ∙ d .1);
-    count = rows-turned new p h ∙ became-rows c;
-  }
-
-  pub sound-lostTurn : Sound net (lostTurn net .after)
+-- ---- what the step leaves
+module _ (net : List ℕ) (s : shape net ≡ true) (b : Rams net) where
+  pub alike-lostTurn : Alike net (lostTurn net .after)
   unfolding lostTurn
-  sound-lostTurn =
-      pick-of (λ (x : Turn Answer). Sound net (x .after)) (eqb (topId net (rows net)) 0) (λ _. record { fits = s; count = refl })
-      (λ t. sound-held _ (became-happened net Recovery s) PASS (highest net) (omega arith) (omega arith) (highest-held net (eqb-false _ _ t)))
+  alike-lostTurn =
+      pick-of (λ (x : Turn Answer). Alike net (x .after)) (eqb (topId net (rows net)) 0) (λ _. alike-same net s b)
+      (λ t. alike-held net s b _ (moved-happened net Recovery s) PASS (highest net) (omega arith) (omega arith) (highest-held net (eqb-false _ _ t)))
 
-  pub sound-passTurn : (fault : ℕ) → holder net < rows net → Sound net (passTurn net fault .after)
+  -- another on-line row that has the ID
+  pub taker-held : taker net < rows net → Held net (taker net)
+  taker-held l = (l, node-online net (taker net) (invited net) (nodeOf-found net (invited net) (holder net) (rows net) l .0))
+
+  pub alike-passTurn : (fault : ℕ) → holder net < rows net → Alike net (passTurn net fault .after)
   unfolding passTurn
-  sound-passTurn fault l =
+  alike-passTurn fault l =
       let h = holder net in
-      let c = became-happened net (Message h true) s in
+      let c = moved-happened net (Message h true) s in
       let m = happened net (Message h true) in
-      let sm = shape-became net m s c in
-      pick-of (λ (x : Turn Answer). Sound net (x .after)) (destroyed fault)
-      (λ _. sound-lost _ (became-happened net (Message h false) s))
-      (λ _. pick-of (λ (x : Turn Answer). Sound net (x .after)) (ltb (taker net) (rows net))
-      (λ t. let b = ltb-true (taker net) (rows net) t in
-      sound-held _ (became-then c (became-happened m (Taken (invited net) (taker net)) sm)) TAKEN (taker net) (omega arith) (omega arith)
-      (b, node-online net (taker net) (invited net) (nodeOf-found net (invited net) h (rows net) b .0)))
-      (λ _. let d = became-then c (became-onRow m h sm (omega (arith, became-rows c)) risenNid keeps-risen) in
-      record { fits = shape-became net _ s d; count = became-rows d }))
+      let sm = shape-moved s c in
+      pick-of (λ (x : Turn Answer). Alike net (x .after)) (destroyed fault)
+      (λ _. alike-lost net s b _ (moved-happened net (Message h false) s))
+      (λ _. pick-of (λ (x : Turn Answer). Alike net (x .after)) (ltb (taker net) (rows net))
+      (λ t. alike-held net s b _ (moved-then c (moved-happened m (Taken (invited net) (taker net)) sm)) TAKEN (taker net) (omega arith) (omega arith)
+      (taker-held (ltb-true (taker net) (rows net) t)))
+      (λ _. alike-moved net s b _ (moved-then c (moved-onRow m h sm (omega (arith, became-rows c)) risenNid keeps-risen))))
 
-  module _ (b : Bytes net) (fault : ℕ) where
-    pub sound-stepTurn : Sound net (stepTurn net fault .after)
+  module _ (fault : ℕ) where
+    pub alike-stepTurn : Alike net (stepTurn net fault .after)
     unfolding stepTurn
-    sound-stepTurn =
-        pick-of (λ (x : Turn Answer). Sound net (x .after)) (eqb (phase net) LOST) (λ _. sound-lostTurn)
+    alike-stepTurn =
+        pick-of (λ (x : Turn Answer). Alike net (x .after)) (eqb (phase net) LOST) (λ _. alike-lostTurn)
         (λ t. let d = shape-holder net s (eqb-false (phase net) LOST t) in
-        pick-of (λ (x : Turn Answer). Sound net (x .after)) (eqb (phase net) PASS) (λ _. sound-passTurn fault (d .0))
-        (λ _. sound-held _ (became-taken net s b (holder net) (d .0) fault) PASS (holder net) (omega arith) (omega arith) d))
+        pick-of (λ (x : Turn Answer). Alike net (x .after)) (eqb (phase net) PASS) (λ _. alike-passTurn fault (d .0))
+        (λ _. alike-held net s b _ (still-moved (still-taken net s b (holder net) (d .0) fault)) PASS (holder net) (omega arith) (omega arith) d))
 
     pub shape-stepTurn : shape (stepTurn net fault .after) ≡ true
-    shape-stepTurn = sound-stepTurn .fits
+    shape-stepTurn = alike-stepTurn .fits
 
-    pub sound-step : Sound net (step net fault .after)
+    pub sound-step : Alike net (step net fault .after)
     unfolding step
     sound-step =
-        pick-of (λ (x : Turn Answer). Sound net (x .after)) (eqb (stepNumber net fault) 0) (λ _. sound-stepTurn) (λ _. record { fits = s; count = refl })
+        pick-of (λ (x : Turn Answer). Alike net (x .after)) (eqb (stepNumber net fault) 0) (λ _. alike-stepTurn) (λ _. alike-same net s b)
