@@ -8,11 +8,11 @@ use Prim.Native.Nat.{ℕ, zero, suc, _+_, _-_, _≤_, _<_}
 use native.Mathlib.Omega.{arith}
 use borrow.Author.Tests.{eqb-true, eqb-false, ltb-true, ltb-false}
 use lib.Dec.{eqb, ltb}
-use lib.ListN.{length, getD, take, drop, replicate, length-take, List·getD-eq-default, List·getD-append}
+use lib.ListN.{length, getD, take, drop, replicate, set, length-take, length-set, List·getD-eq-default, List·getD-append}
 use lib.Seq.{getD-take, getD-drop, getD-append-add, getD-set-same, getD-set-other}
 use Rattle.card.specs.declared.regs.Regs.{Regs}
 use Rattle.card.specs.declared.packets.Packet.{Packet}
-use Rattle.card.specs.Row.{registerBytes, rowBytes, regsOf, putRegs}
+use Rattle.card.specs.Row.{regsOf, putRegs}
 use Rattle.card.specs.Packets.{dataAt, headBytes, pageBytes, pageAt, pageShape, packetAt, stored, stamped}
 use Rattle.card.proofs.Bools.{cases}
 use Rattle.card.proofs.Rows.{put-rest}
@@ -58,12 +58,18 @@ module _ (r : List ℕ) (b : Ram r) where
   pub ram-put : (g : Regs) → Ram (putRegs r g)
   ram-put g i h = rw (put-rest r g i (omega arith)) (b i h)
 
-  pub ram-stamped : (p : ℕ) → p < 4 → length r ≡ rowBytes → regsOf r .id < 256 → Ram (stamped r p)
+  pub ram-stamped : (p : ℕ) → regsOf r .id < 256 → Ram (stamped r p)
   unfolding stamped
-  ram-stamped p s l d i h =
-      ⊎-elim (λ (t : eqb i (pageAt p) ≡ true). rw (eqb-true i (pageAt p) t, getD-set-same r (pageAt p) (regsOf r .id) 0 (omega arith)) d)
+  ram-stamped p d i h =
+      ⊎-elim (λ (t : eqb i (pageAt p) ≡ true). rw (eqb-true i (pageAt p) t) there)
       (λ (t : eqb i (pageAt p) ≡ false). rw (getD-set-other r (pageAt p) i (regsOf r .id) 0 (eqb-false i (pageAt p) t)) (b i h))
       (cases (eqb i (pageAt p)))
+    where
+      there : getD (set r (pageAt p) (regsOf r .id)) (pageAt p) 0 < 256
+      there =
+          ⊎-elim (λ t. rw (getD-set-same r (pageAt p) (regsOf r .id) 0 (ltb-true (pageAt p) (length r) t)) d)
+          (λ t. rw (List·getD-eq-default (set r (pageAt p) (regsOf r .id)) 0 {n = pageAt p} (omega (arith, length-set r (pageAt p) (regsOf r .id), ltb-false (pageAt p) (length r) t))) (omega arith))
+          (cases (ltb (pageAt p) (length r)))
 
   module _ (p : ℕ) (k : Packet) (f : pageAt p + pageBytes (k .shape) ≤ length r) (n : 512 ≤ length (k .bytes)) (c : dataAt (k .shape) < 256) (q : Small (k .bytes)) where
     -- at an offset of the page

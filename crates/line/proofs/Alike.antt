@@ -1,6 +1,6 @@
 -- The rows of a network have RAMs and IDs of bytes, and so has what it becomes: a network of the same IDs, with the same rows on line.
 -- Assumes nothing.
-use mathlib.Core.Path.{_≡_, refl, sym, _∙_, ap}
+use mathlib.Core.Path.{_≡_, refl, _∙_}
 use mathlib.Core.Bool.{true, false}
 use mathlib.Core.List.{List}
 use mathlib.Core.Logic.{⊎-elim}
@@ -9,7 +9,7 @@ use native.Mathlib.Omega.{arith}
 use lib.Dec.{ltb}
 use lib.ListN.{length, getD, List·getD-eq-default}
 use borrow.Author.Tests.{ltb-true, ltb-false}
-use Rattle.card.specs.Row.{rowBytes, regsOf}
+use Rattle.card.specs.Row.{rowBytes}
 use Rattle.card.proofs.Bools.{cases}
 use Rattle.card.proofs.PacketLaws.{Ram}
 use Rattle.card.proofs.Rams.{Small, id-byte}

@@ -10,7 +10,6 @@ use Rattle.card.specs.declared.regs.Regs.{Regs}
 use Rattle.card.specs.Row.{regsOf, onLine, wellFormed}
 use Rattle.card.proofs.PacketLaws.{Ram}
 use Rattle.line.specs.Network.{rows, phase, holder, rowAt, onLineAt, shape}
-use Rattle.line.proofs.Shapes.{shape-row}
 use Rattle.line.proofs.ShapesKept.{Kept, kept-same, Became, shape-became}
 
 -- ---- a row: kept, and with a RAM of bytes where it had one and its ID is a byte; and with the NID that it had

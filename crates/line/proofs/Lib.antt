@@ -26,3 +26,5 @@ pub mod Stepped
 pub mod OneOrder
 pub mod TrafficKeep
 pub mod StepShape
+pub mod StepIs
+pub mod View

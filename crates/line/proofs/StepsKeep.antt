@@ -1,22 +1,26 @@
 -- What a step does to the rows keeps SHAPE and the RAMs, and what leaves the cards' NIDs keeps the network's.
 -- Assumes nothing.
-use mathlib.Core.Path.{_≡_, _∙_}
+use mathlib.Core.Path.{_≡_, _∙_, ap}
 use mathlib.Core.Bool.{true}
 use mathlib.Core.List.{List}
 use Prim.Native.Nat.{ℕ, _<_}
+use native.Mathlib.Omega.{arith}
 use lib.ListN.{length}
 use Rattle.card.specs.declared.regs.Regs.{Regs}
 use Rattle.line.specs.declared.passes.Event.{Event}
-use Rattle.card.specs.Row.{rowBytes, regsOf}
-use Rattle.card.specs.Events.{cancelled}
-use Rattle.card.proofs.Rows.{length-put, well-fit}
+use Rattle.line.specs.declared.passes.Event.the-variants.{Recovery}
+use Rattle.card.specs.Row.{rowBytes, regsOf, onLine}
+use Rattle.card.specs.Events.{recovered, cancelled}
+use Rattle.card.proofs.Rows.{length-put, regs-put, well-fit}
 use Rattle.card.proofs.Fits.{Fit, fit-rules}
+use Rattle.card.proofs.Kept.{is-recovered}
 use Rattle.card.proofs.Stays.{well-stamped, regs-stamped}
 use Rattle.card.proofs.Pages.{length-stamped}
 use Rattle.card.proofs.Rams.{ram-stamped}
-use Rattle.line.specs.Network.{rows, rowAt, onRegs, regsAt, shape}
+use Rattle.line.specs.Network.{rows, rowAt, onRegs, regsAt, onLineAt, shape}
 use Rattle.line.specs.Traffic.{onRow, happens, happened, stampedNet}
-use Rattle.line.proofs.Shapes.{shape-row, shape-row-length}
+use Rattle.line.proofs.Networks.{rowAt-setRow, rowAt-setRow-other}
+use Rattle.line.proofs.Shapes.{shape-within, shape-row, shape-row-length}
 use Rattle.line.proofs.ShapesKept.{Became, became-each, became-put}
 use Rattle.line.proofs.Became.{Moved, Still, moved-same, still-same, still-regs, became-rows, shape-moved, shape-still}
 use Rattle.line.proofs.RegsKeep.{Keeps, Stays, row-moved, row-still, stays-cancelled, reaches}
@@ -63,6 +67,30 @@ module _ (net : List ℕ) (k : ℕ) (s : shape net ≡ true) (h : k < rows net) 
 
   pub shape-stamped : (p : ℕ) → shape (stampedNet net k p) ≡ true
   shape-stamped p = shape-still s (still-stamped p)
+
+  -- the row's own registers after the change, and every other row
+  pub onRow-here : (f : Regs → Regs) → regsAt (onRow net k f) k ≡ f (regsAt net k)
+  unfolding onRow
+  onRow-here f =
+      let l = shape-row-length net s k h in
+      ap regsOf (rowAt-setRow net k _ (shape-within net s k h) (length-put here _ ∙ l)) ∙ regs-put here _ (omega arith)
+
+  pub onRow-there : (f : Regs → Regs) (j : ℕ) → j < rows net → (j ≡ k → ⊥) → rowAt (onRow net k f) j ≡ rowAt net j
+  unfolding onRow
+  onRow-there f j b ne =
+      rowAt-setRow-other net k _ (shape-within net s k h) (length-put here _ ∙ shape-row-length net s k h) j ne (shape-within net s j b)
+
+-- after a recovery the NID of an on-line row is its own ID
+abbrev Own : List ℕ → List ℕ → Type 0
+Own r q = onLine (regsOf r) ≡ true → regsOf q .nid ≡ regsOf r .id
+
+pub recovered-nid : (net : List ℕ) → shape net ≡ true → (k : ℕ) → k < rows net → onLineAt net k ≡ true → regsAt (happened net Recovery) k .nid ≡ regsAt net k .id
+unfolding happened onLineAt
+recovered-nid net s =
+    became-each {R = Own} (λ k r. onRegs recovered r) net s
+    (λ k l. let m = shape-row-length net s k l in
+    let g = regsAt net k in
+    (length-put (rowAt net k) _ ∙ m, λ o. ap (λ (x : Regs). x .nid) (regs-put (rowAt net k) (recovered g) (omega arith)) ∙ is-recovered g .nid ∙ rw o)) .row
 
 module _ (net : List ℕ) (e : Event) (s : shape net ≡ true) where
   pub moved-happened : Became Moved net (happened net e)
