@@ -19,6 +19,10 @@ use Rattle.line.specs.Step.{highest, lostTurn, invited, taker, passTurn,
 use Rattle.line.proofs.Folds.{clash}
 use Rattle.line.proofs.Shapes.{shape-holder}
 
+-- every other row hears the invitation
+abbrev pub invitation : List ℕ → List ℕ
+invitation net = happened net (Message (holder net) true)
+
 module _ (net : List ℕ) (s : shape net ≡ true) where
   -- the step is not refused
   number-is : stepNumber net 0 ≡ 0
@@ -45,16 +49,12 @@ module _ (net : List ℕ) (s : shape net ≡ true) where
   unfolding stepTurn
   held-is p = step-is ∙ rw p
 
-  -- every other row hears the invitation
-  abbrev pub invitation : List ℕ
-  invitation = happened net (Message (holder net) true)
-
   pub taker-is : phase net ≡ PASS → taker net < rows net
-      → step net 0 ≡ record { answer = Passed (taker net); after = turned (happened invitation (Taken (invited net) (taker net))) TAKEN (taker net) }
+      → step net 0 ≡ record { answer = Passed (taker net); after = turned (happened (invitation net) (Taken (invited net) (taker net))) TAKEN (taker net) }
   unfolding passTurn
   taker-is p l = pass-is p ∙ rw (lt-ltb _ _ l)
 
-  pub none-is : phase net ≡ PASS → rows net ≤ taker net → step net 0 ≡ record { answer = Unanswered (invited net); after = onRow invitation (holder net) risenNid }
+  pub none-is : phase net ≡ PASS → rows net ≤ taker net → step net 0 ≡ record { answer = Unanswered (invited net); after = onRow (invitation net) (holder net) risenNid }
   unfolding passTurn
   none-is p l = pass-is p ∙ rw (le-ltb _ _ l)
 

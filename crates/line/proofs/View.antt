@@ -54,7 +54,7 @@ module _ (net : List ℕ) (s : shape net ≡ true) (b : Rams net) where
       }
 
   -- ---- "PASS": every other row hears the invitation
-  heard-all : Became Still net (invitation net s)
+  heard-all : Became Still net (invitation net)
   heard-all = still-happened net (Message (holder net) true) s (stays-message (holder net) true)
 
   pub record AfterTaker : Type 0 where
@@ -68,8 +68,8 @@ module _ (net : List ℕ) (s : shape net ≡ true) (b : Rams net) where
   taker-step p lt =
       let e = taker-is net s p lt in
       let t = taker net in
-      let m = happened (invitation net s) (Taken (invited net) t) in
-      let c = still-then heard-all (still-happened (invitation net s) (Taken (invited net) t) (shape-still s heard-all) (stays-taken (invited net) t)) in
+      let m = happened (invitation net) (Taken (invited net) t) in
+      let c = still-then heard-all (still-happened (invitation net) (Taken (invited net) t) (shape-still s heard-all) (stays-taken (invited net) t)) in
       let l = has-header m (shape-still s c) in
       record {
         answer = ap (λ (t : Turn Answer). t .answer) e;
@@ -91,7 +91,7 @@ module _ (net : List ℕ) (s : shape net ≡ true) (b : Rams net) where
   none-step p lt =
       let e = none-is net s p lt in
       let h = holder net in
-      let m = invitation net s in
+      let m = invitation net in
       let sm = shape-still s heard-all in
       let l = held-row net s in
       let lm : h < rows m = omega (arith, became-rows heard-all) in
