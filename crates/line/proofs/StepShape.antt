@@ -47,21 +47,21 @@ highest-held net ne =
     (λ j l. nodeOf-fails net top n n (omega (arith, ltb-false (highest net) n t, seek-at-most (other net top n) n)) j l (λ e. omega arith)))))
     (cases (ltb (highest net) n))
 
+-- the row that takes the invitation is on line
+pub taker-held : (net : List ℕ) → taker net < rows net → Held net (taker net)
+taker-held net l = (l, node-online net (taker net) (invited net) (nodeOf-found net (invited net) (holder net) (rows net) l .0))
+
 -- ---- what the step leaves
 module _ (net : List ℕ) (s : shape net ≡ true) (b : Rams net) where
-  pub alike-lostTurn : Alike net (lostTurn net .after)
+  pub sound-lostTurn : Alike net (lostTurn net .after)
   unfolding lostTurn
-  alike-lostTurn =
+  sound-lostTurn =
       pick-of (λ (x : Turn Answer). Alike net (x .after)) (eqb (topId net (rows net)) 0) (λ _. alike-same net s b)
       (λ t. alike-held net s b _ (moved-happened net Recovery s) PASS (highest net) (omega arith) (omega arith) (highest-held net (eqb-false _ _ t)))
 
-  -- another on-line row that has the ID
-  pub taker-held : taker net < rows net → Held net (taker net)
-  taker-held l = (l, node-online net (taker net) (invited net) (nodeOf-found net (invited net) (holder net) (rows net) l .0))
-
-  pub alike-passTurn : (fault : ℕ) → holder net < rows net → Alike net (passTurn net fault .after)
+  pub sound-passTurn : (fault : ℕ) → holder net < rows net → Alike net (passTurn net fault .after)
   unfolding passTurn
-  alike-passTurn fault l =
+  sound-passTurn fault l =
       let h = holder net in
       let c = moved-happened net (Message h true) s in
       let m = happened net (Message h true) in
@@ -70,22 +70,22 @@ module _ (net : List ℕ) (s : shape net ≡ true) (b : Rams net) where
       (λ _. alike-lost net s b _ (moved-happened net (Message h false) s))
       (λ _. pick-of (λ (x : Turn Answer). Alike net (x .after)) (ltb (taker net) (rows net))
       (λ t. alike-held net s b _ (moved-then c (moved-happened m (Taken (invited net) (taker net)) sm)) TAKEN (taker net) (omega arith) (omega arith)
-      (taker-held (ltb-true (taker net) (rows net) t)))
+      (taker-held net (ltb-true (taker net) (rows net) t)))
       (λ _. alike-moved net s b _ (moved-then c (moved-onRow m h sm (omega (arith, became-rows c)) risenNid keeps-risen))))
 
   module _ (fault : ℕ) where
-    pub alike-stepTurn : Alike net (stepTurn net fault .after)
+    pub sound-stepTurn : Alike net (stepTurn net fault .after)
     unfolding stepTurn
-    alike-stepTurn =
-        pick-of (λ (x : Turn Answer). Alike net (x .after)) (eqb (phase net) LOST) (λ _. alike-lostTurn)
+    sound-stepTurn =
+        pick-of (λ (x : Turn Answer). Alike net (x .after)) (eqb (phase net) LOST) (λ _. sound-lostTurn)
         (λ t. let d = shape-holder net s (eqb-false (phase net) LOST t) in
-        pick-of (λ (x : Turn Answer). Alike net (x .after)) (eqb (phase net) PASS) (λ _. alike-passTurn fault (d .0))
+        pick-of (λ (x : Turn Answer). Alike net (x .after)) (eqb (phase net) PASS) (λ _. sound-passTurn fault (d .0))
         (λ _. alike-held net s b _ (still-moved (still-taken net s b (holder net) (d .0) fault)) PASS (holder net) (omega arith) (omega arith) d))
 
     pub shape-stepTurn : shape (stepTurn net fault .after) ≡ true
-    shape-stepTurn = alike-stepTurn .fits
+    shape-stepTurn = sound-stepTurn .fits
 
     pub sound-step : Alike net (step net fault .after)
     unfolding step
     sound-step =
-        pick-of (λ (x : Turn Answer). Alike net (x .after)) (eqb (stepNumber net fault) 0) (λ _. alike-stepTurn) (λ _. alike-same net s b)
+        pick-of (λ (x : Turn Answer). Alike net (x .after)) (eqb (stepNumber net fault) 0) (λ _. sound-stepTurn) (λ _. alike-same net s b)

@@ -9,7 +9,7 @@ use lib.ListN.{length}
 use Rattle.card.specs.declared.regs.Regs.{Regs}
 use Rattle.line.specs.declared.passes.Event.{Event}
 use Rattle.line.specs.declared.passes.Event.the-variants.{Recovery}
-use Rattle.card.specs.Row.{rowBytes, regsOf, onLine}
+use Rattle.card.specs.Row.{rowBytes, regsOf, putRegs, onLine}
 use Rattle.card.specs.Events.{recovered, cancelled}
 use Rattle.card.proofs.Rows.{length-put, regs-put, well-fit}
 use Rattle.card.proofs.Fits.{Fit, fit-rules}
@@ -17,13 +17,13 @@ use Rattle.card.proofs.Kept.{is-recovered}
 use Rattle.card.proofs.Stays.{well-stamped, regs-stamped}
 use Rattle.card.proofs.Pages.{length-stamped}
 use Rattle.card.proofs.Rams.{ram-stamped}
-use Rattle.line.specs.Network.{rows, rowAt, onRegs, regsAt, onLineAt, shape}
+use Rattle.line.specs.Network.{rows, rowAt, setRow, onRegs, regsAt, onLineAt, shape}
 use Rattle.line.specs.Traffic.{onRow, happens, happened, stampedNet}
 use Rattle.line.proofs.Networks.{rowAt-setRow, rowAt-setRow-other}
 use Rattle.line.proofs.Shapes.{shape-within, shape-row, shape-row-length}
 use Rattle.line.proofs.ShapesKept.{Became, became-each, became-put}
 use Rattle.line.proofs.Became.{Moved, Still, moved-same, still-same, still-regs, became-rows, shape-moved, shape-still}
-use Rattle.line.proofs.RegsKeep.{Keeps, Stays, row-moved, row-still, stays-cancelled, reaches}
+use Rattle.line.proofs.RegsKeep.{Same, Calm, Keeps, Stays, row-moved, row-still, stays-cancelled, reaches}
 
 module _ (net : List ℕ) (k : ℕ) (s : shape net ≡ true) (h : k < rows net) where
   abbrev here : List ℕ
@@ -32,27 +32,31 @@ module _ (net : List ℕ) (k : ℕ) (s : shape net ≡ true) (h : k < rows net) 
   pub row-fits : Fit (regsAt net k)
   row-fits = fit-rules (regsAt net k) (well-fit here (shape-row net s k h))
 
-  -- a row is given registers that fit, and those that it had but for some
-  regs-moved : (f : Regs → Regs) → Keeps f → (length (onRegs f here) ≡ rowBytes) × Moved here (onRegs f here)
-  regs-moved f q =
+  -- the row is given registers that fit: of the same card, or with its NID too
+  regs-moved : (g : Regs) → Same (regsAt net k) g → (length (putRegs here g) ≡ rowBytes) × Moved here (putRegs here g)
+  regs-moved g e =
       let l = shape-row-length net s k h in
-      (length-put here _ ∙ l, row-moved here l (shape-row net s k h) (f (regsOf here)) (q (regsOf here) row-fits))
+      (length-put here g ∙ l, row-moved here l (shape-row net s k h) g e)
 
-  regs-still : (f : Regs → Regs) → Stays f → (length (onRegs f here) ≡ rowBytes) × Still here (onRegs f here)
-  regs-still f q =
+  regs-still : (g : Regs) → Calm (regsAt net k) g → (length (putRegs here g) ≡ rowBytes) × Still here (putRegs here g)
+  regs-still g e =
       let l = shape-row-length net s k h in
-      (length-put here _ ∙ l, row-still here l (shape-row net s k h) (f (regsOf here)) (q (regsOf here) row-fits))
+      (length-put here g ∙ l, row-still here l (shape-row net s k h) g e)
+
+  pub moved-regs : (g : Regs) → Same (regsAt net k) g → Became Moved net (setRow net k (putRegs here g))
+  moved-regs g e = let q = regs-moved g e in became-put net k _ s h (q .0) (q .1) (λ j b. moved-same (rowAt net j) (shape-row net s j b))
+
+  pub shape-regs : (g : Regs) → Same (regsAt net k) g → shape (setRow net k (putRegs (rowAt net k) g)) ≡ true
+  shape-regs g e = shape-moved s (moved-regs g e)
 
   pub moved-onRow : (f : Regs → Regs) → Keeps f → Became Moved net (onRow net k f)
   unfolding onRow
-  moved-onRow f q =
-      let m = regs-moved f q in
-      became-put net k _ s h (m .0) (m .1) (λ j b. moved-same (rowAt net j) (shape-row net s j b))
+  moved-onRow f q = moved-regs (f (regsAt net k)) (q (regsAt net k) row-fits)
 
   pub still-onRow : (f : Regs → Regs) → Stays f → Became Still net (onRow net k f)
   unfolding onRow
   still-onRow f q =
-      let m = regs-still f q in
+      let m = regs-still (f (regsAt net k)) (q (regsAt net k) row-fits) in
       became-put net k _ s h (m .0) (m .1) (λ j b. still-same (rowAt net j) (shape-row net s j b))
 
   pub shape-cancelled : shape (onRow net k cancelled) ≡ true
@@ -95,11 +99,15 @@ recovered-nid net s =
 module _ (net : List ℕ) (e : Event) (s : shape net ≡ true) where
   pub moved-happened : Became Moved net (happened net e)
   unfolding happened
-  moved-happened = became-each (λ k r. onRegs (happens e k) r) net s (λ k l. regs-moved net k s l (happens e k) (reaches e k))
+  moved-happened =
+      became-each (λ k r. onRegs (happens e k) r) net s
+      (λ k l. regs-moved net k s l (happens e k (regsAt net k)) (reaches e k (regsAt net k) (row-fits net k s l)))
 
   pub still-happened : ((k : ℕ) → Stays (happens e k)) → Became Still net (happened net e)
   unfolding happened
-  still-happened q = became-each (λ k r. onRegs (happens e k) r) net s (λ k l. regs-still net k s l (happens e k) (q k))
+  still-happened q =
+      became-each (λ k r. onRegs (happens e k) r) net s
+      (λ k l. regs-still net k s l (happens e k (regsAt net k)) (q k (regsAt net k) (row-fits net k s l)))
 
   pub shape-happened : shape (happened net e) ≡ true
   shape-happened = shape-moved s moved-happened
