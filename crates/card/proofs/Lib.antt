@@ -16,6 +16,7 @@ pub mod Carried
 pub mod Pages
 pub mod Stays
 pub mod Kept
+pub mod Loads
 pub mod Traffic
 pub mod PacketLaws
 pub mod Rams

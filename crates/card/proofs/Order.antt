@@ -8,6 +8,7 @@ use native.Mathlib.Omega.{arith}
 use lib.ListN.{length, getD}
 use Rattle.card.specs.declared.numbers.Cases.{Cases}
 use Rattle.card.specs.Words.{pick}
+use Rattle.card.specs.CaseFields.{with-room, with-order}
 use Rattle.card.specs.Numbers.{none, numberOf, placed}
 
 -- the cases in the table's order: that at place i has the number i + 1
@@ -52,3 +53,12 @@ number-none = refl
 pub number-value : (t : Cases) → t .shape ≡ false → t .row ≡ false → t .register ≡ false → t .value ≡ true → numberOf t ≡ 4
 unfolding numberOf
 number-value t s r g v = rw (s, r, g, v)
+
+-- ROOM alone, and ORDER alone
+pub number-room : numberOf (with-room true none) ≡ 13
+unfolding numberOf
+number-room = refl
+
+pub number-order : numberOf (with-order true none) ≡ 14
+unfolding numberOf
+number-order = refl

@@ -3,21 +3,23 @@
 use mathlib.Core.Path.{_≡_, refl, sym, _∙_, ap}
 use mathlib.Core.Bool.{Bool, true, false, not, _||_}
 use mathlib.Core.List.{List, _∷_, _++_, append-nil, append-assoc}
+use mathlib.Core.Logic.{⊎-elim}
 use Prim.Native.Nat.{ℕ, zero, suc, _+_, _*_, _≤_, _<_}
 use native.Mathlib.Omega.{arith}
 use lib.Dec.{eqb, ltb, lit<}
 use lib.ListN.{length, getD, set, drop, replicate, length-append, length-drop, drop-of-length-le}
 use lib.Seq.{length-take-le, take-at, drop-at, drop-drop}
-use borrow.Author.Tests.{eq-eqb, ne-eqb, eqb-true, ltb-false, not-false}
+use borrow.Author.Tests.{eq-eqb, ne-eqb, eqb-true, ltb-false, le-ltb, not-false}
 use borrow.Rule.Slice.PartMut.{midOf, putMid}
+use Rattle.card.specs.Words.{pick}
 use Rattle.card.specs.Numbers.{numberOf}
 use Rattle.card.specs.Row.{rowBytes}
 use Rattle.card.specs.Access.{freshRow}
-use Rattle.card.proofs.Bools.{or-right}
+use Rattle.card.proofs.Bools.{cases, or-right}
 use Rattle.card.proofs.Order.{tests, none-holds}
-use Rattle.card.proofs.Order.{number-value}
+use Rattle.card.proofs.Order.{number-none, number-value, number-room}
 use Rattle.card.proofs.Stays.{length-fresh}
-use Rattle.line.specs.Network.{headerBytes, mark, rowLimit, rowStart, rowAt, setRow, eachRow}
+use Rattle.line.specs.Network.{headerBytes, mark, rowLimit, rowStart, rows, phase, LOST, rowAt, setRow, eachRow}
 use Rattle.line.specs.Calls.{freshRows, freshNet, freshCases, freshNumber, netAfterFresh}
 use Rattle.line.proofs.EachRow.{eachRow-row}
 
@@ -98,7 +100,24 @@ module _ (net : List ℕ) (n r : ℕ) (p : r ≡ freshNumber net n) where
               ∙ rw (← p, eq-eqb _ _ z),
         )
 
--- ---- the rows of a fresh network
+-- ---- the call for 1 to 60 rows: ROOM, or the network is made
+module _ (net : List ℕ) (n : ℕ) where
+  pub fresh-room : 0 < n → n ≤ rowLimit → freshNumber net n ≡ pick (eqb (length net) (rowStart n)) 0 13
+  unfolding freshNumber
+  fresh-room a b =
+      rw (ne-eqb n 0 (λ e. omega arith), le-ltb rowLimit n b)
+      (⊎-elim (λ (t : eqb (length net) (rowStart n) ≡ true). rw t number-none) (λ (t : eqb (length net) (rowStart n) ≡ false). rw t number-room)
+      (cases (eqb (length net) (rowStart n))))
+
+  pub fresh-net : freshNumber net n ≡ 0 → netAfterFresh net n ≡ freshNet n
+  unfolding netAfterFresh
+  fresh-net z = rw z
+
+-- ---- the header and the rows of a fresh network
+pub header-fresh : (n : ℕ) → (rows (freshNet n) ≡ n) × (phase (freshNet n) ≡ LOST)
+unfolding freshNet
+header-fresh n = (refl, refl)
+
 pub length-freshNet : (n : ℕ) → length (freshNet n) ≡ rowStart n
 unfolding freshNet
 length-freshNet n = length-append (header n) (freshRows n) ∙ omega (arith, length-freshRows n)

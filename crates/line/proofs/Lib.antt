@@ -13,6 +13,8 @@ pub mod Fresh
 pub mod RowsKeep
 pub mod SettledKeep
 pub mod CallsKeep
+pub mod Beside
+pub mod Writes
 pub mod Carry
 pub mod Became
 pub mod Alike

@@ -46,6 +46,15 @@ module _ (net : List ℕ) (k : ℕ) (s : Bool) (e : s ≡ shape net) (t : Cases)
   unfolding placeNumber
   place-asked f n m h = h ∙ rw (z, m, ← e, f)
 
+-- row k is there: its part lies in the network, at a place that a usize holds, and the place has the number 0
+module _ (net : List ℕ) (k : ℕ) (s : shape net ≡ true) (l : k < rows net) where
+  pub row-part : (k < rowLimit) × (rowStart k + rowBytes ≤ length net)
+  row-part = (omega (arith, shape-rows net s .1), shape-within net s k l)
+
+  pub row-placed : placeNumber net k ≡ 0
+  unfolding placeNumber
+  row-placed = rw (s, lt-leb _ _ l) (placed-card none refl refl ∙ number-none)
+
 -- the number n is that of the place: 0 where the row is there
 module _ (net : List ℕ) (k n : ℕ) (p : n ≡ placeNumber net k) where
   module _ (z : n ≡ 0) where
@@ -60,9 +69,8 @@ module _ (net : List ℕ) (k n : ℕ) (p : n ≡ placeNumber net k) where
     unfolding placeNumber
     at-row = leb-false _ _ (none-holds asked (sym p ∙ z) 1 (lit< tt))
 
-    -- its part lies in the network, at a place that a usize holds
     pub at-part : (k < rowLimit) × (rowStart k + rowBytes ≤ length net)
-    at-part = (omega (arith, at-row, shape-rows net at-shape .1), shape-within net at-shape k at-row)
+    at-part = row-part net k at-shape at-row
 
   -- ---- reading
   pub read-refused : (g : ℕ) → (n ≡ 0 → ⊥)

@@ -3,7 +3,7 @@
 use mathlib.Core.Path.{_≡_, refl, sym, _∙_, ap}
 use mathlib.Core.Bool.{Bool, true, false, not, _&&_}
 use mathlib.Core.List.{List}
-use Prim.Native.Nat.{ℕ}
+use Prim.Native.Nat.{ℕ, _<_}
 use lib.Dec.{eqb, ltb}
 use borrow.Author.Tests.{eq-eqb, ne-eqb}
 use Rattle.card.specs.declared.regs.Regs.{Regs}
@@ -13,11 +13,11 @@ use Rattle.card.specs.Refusals.{writeNumber}
 use Rattle.card.specs.Access.{rowAfterWrite, rowAfterReset}
 use Rattle.card.specs.Events.{burst}
 use Rattle.card.proofs.Accesses.{write-refused}
-use Rattle.line.specs.Network.{rows, phase, holder, LOST, turned, rowAt, setRow, regsAt, onLineAt, nodeOf}
+use Rattle.line.specs.Network.{rows, phase, holder, LOST, turned, rowAt, setRow, regsAt, onLineAt, nodeOf, shape}
 use Rattle.line.specs.Calls.{placeNumber, isHolder, settled, online, duplicate, netWriteNumber, netAfterWrite, netAfterReset}
 use Rattle.line.proofs.Networks.{mid-row, put-row, setRow-rowAt}
 use Rattle.line.proofs.Nodes.{online-is}
-use Rattle.line.proofs.Placed.{lent, back}
+use Rattle.line.proofs.Placed.{lent, back, row-placed}
 
 and-assoc : (a b c : Bool) → (a && (b && c)) ≡ (a && b && c)
 and-assoc true b c = refl
@@ -77,27 +77,29 @@ module _ (net : List ℕ) (k n : ℕ) (p : n ≡ placeNumber net k) (r v : ℕ) 
   unfolding netAfterWrite
   write-nowhere h = (write-place h, rw (← write-place h, ne-eqb _ _ h))
 
-  module _ (z : n ≡ 0) (x y : Bool) (i : x ≡ online net k r) (j : y ≡ duplicate net k r v) (m : ℕ) (u : m ≡ writeNumber (regsOf (lent net k)) r v x y)
-      (s : List ℕ) (t : s ≡ rowAfterWrite (lent net k) r v x y) where
-    told : m ≡ writeNumber (regsAt net k) r v x y
-    told = u ∙ ap (λ (row : List ℕ). writeNumber (regsOf row) r v x y) (mid-row net k)
+-- in a network that SHAPE does not refuse
+module _ (net : List ℕ) (k : ℕ) (p : shape net ≡ true) (q : k < rows net) (r v : ℕ) (x y : Bool)
+    (i : x ≡ online net k r) (j : y ≡ duplicate net k r v) (m : ℕ) (u : m ≡ writeNumber (regsOf (lent net k)) r v x y)
+    (s : List ℕ) (t : s ≡ rowAfterWrite (lent net k) r v x y) where
+  told : m ≡ writeNumber (regsAt net k) r v x y
+  told = u ∙ ap (λ (row : List ℕ). writeNumber (regsOf row) r v x y) (mid-row net k)
 
-    after : s ≡ rowAfterWrite (rowAt net k) r v x y
-    after = t ∙ ap (λ (row : List ℕ). rowAfterWrite row r v x y) (mid-row net k)
+  after : s ≡ rowAfterWrite (rowAt net k) r v x y
+  after = t ∙ ap (λ (row : List ℕ). rowAfterWrite row r v x y) (mid-row net k)
 
-    write-number : m ≡ netWriteNumber net k r v
-    unfolding netWriteNumber
-    write-number = told ∙ rw (i, j, ← p, eq-eqb _ _ z)
+  write-number : m ≡ netWriteNumber net k r v
+  unfolding netWriteNumber
+  write-number = told ∙ rw (i, j, row-placed net k p q)
 
-    pub write-off : (m ≡ 0 → ⊥) → (m ≡ netWriteNumber net k r v) × (back net k s ≡ netAfterWrite net k r v)
-    unfolding netAfterWrite
-    write-off h = (
-      write-number,
-      put-row net k s ∙ ap (setRow net k) (after ∙ sym (write-refused (rowAt net k) r v m x y (regsAt net k) refl told h .1)) ∙ setRow-rowAt net k
-          ∙ rw (← write-number, ne-eqb _ _ h),
-    )
+  pub write-off : (m ≡ 0 → ⊥) → (m ≡ netWriteNumber net k r v) × (back net k s ≡ netAfterWrite net k r v)
+  unfolding netAfterWrite
+  write-off h = (
+    write-number,
+    put-row net k s ∙ ap (setRow net k) (after ∙ sym (write-refused (rowAt net k) r v m x y (regsAt net k) refl told h .1)) ∙ setRow-rowAt net k
+        ∙ rw (← write-number, ne-eqb _ _ h),
+  )
 
-    pub write-done : m ≡ 0 → (was : Bool) → was ≡ onLineAt net k → (c : List ℕ) → c ≡ settled (back net k s) k was
-        → (0 ≡ netWriteNumber net k r v) × (c ≡ netAfterWrite net k r v)
-    unfolding netAfterWrite
-    write-done h was b c a = (sym h ∙ write-number, a ∙ rw (put-row, after, i, j, b, ← write-number, eq-eqb _ _ h))
+  pub write-done : m ≡ 0 → (was : Bool) → was ≡ onLineAt net k → (c : List ℕ) → c ≡ settled (back net k s) k was
+      → (0 ≡ netWriteNumber net k r v) × (c ≡ netAfterWrite net k r v)
+  unfolding netAfterWrite
+  write-done h was b c a = (sym h ∙ write-number, a ∙ rw (put-row, after, i, j, b, ← write-number, eq-eqb _ _ h))

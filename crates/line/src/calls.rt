@@ -1,11 +1,12 @@
 // Document 01, "Registers" and "Packets", for a row of a network, and the fresh call. Each call tests SHAPE once.
 ghost use mathlib.Core.Path.{_≡_};
+ghost use mathlib.Core.Bool.{true};
 ghost use mathlib.Core.List.{_∷_, _++_};
 ghost use Prim.Native.Nat.{_+_, _≤_, _<_};
 ghost use lib.ListN.{length, drop, replicate};
 ghost use Rattle.card.specs.Row.{rowBytes};
 ghost use Rattle.card.specs.Access.{freshRow};
-ghost use Rattle.line.specs.Network.{headerBytes, mark, rowStart, eachRow};
+ghost use Rattle.line.specs.Network.{headerBytes, mark, rowStart, rows, eachRow, shape};
 ghost use Rattle.line.specs.Calls.{placeNumber, netReading, netAfterRead, settled, netWriteNumber, netAfterWrite, netAfterReset, timerNumber, netAfterTimer, netInterrupt, netData, netDataNumber, freshNumber, netAfterFresh};
 use crate::network::HEADER;
 use crate::network::LOST;
@@ -75,15 +76,13 @@ fn settle(net: &mut [u8], k: usize, was: bool)
     }
 }
 
-// A register of a row is written.
-pub fn write(net: &mut [u8], row: usize, register: usize, value: u8) -> u8
+// A register of a row is written, in a network that SHAPE does not refuse. It serves whoever has tested SHAPE already.
+pub fn write_on(net: &mut [u8], row: usize, register: usize, value: u8) -> u8
+    requires { ⌜ shape (now net) ≡ true ⌝ }
+    requires { ⌜ row < rows (now net) ⌝ }
     ensures number { λ r. ⌜ r ≡ netWriteNumber (now (net .entry)) row register value ⌝ }
     ensures bytes { λ _. ⌜ now (net .exit) ≡ netAfterWrite (now (net .entry)) row register value ⌝ }
 {
-    let number = place_number(net, row);
-    if number != 0 {
-        return number;
-    }
     let g = regs_at(net, row);
     let was = g.on_line();
     let after = g.after_write(register, value);
@@ -102,6 +101,18 @@ pub fn write(net: &mut [u8], row: usize, register: usize, value: u8) -> u8
     }
     settle(net, row, was);
     0
+}
+
+// A register of a row is written.
+pub fn write(net: &mut [u8], row: usize, register: usize, value: u8) -> u8
+    ensures number { λ r. ⌜ r ≡ netWriteNumber (now (net .entry)) row register value ⌝ }
+    ensures bytes { λ _. ⌜ now (net .exit) ≡ netAfterWrite (now (net .entry)) row register value ⌝ }
+{
+    let number = place_number(net, row);
+    if number != 0 {
+        return number;
+    }
+    write_on(net, row, register, value)
 }
 
 // A row's hardware reset.
