@@ -1,0 +1,161 @@
+-- When the token comes back: after the recovery, the 255 + 2n-th step is the first that passes it to the first holder.
+-- Assumes nothing.
+use mathlib.Core.Path.{_≡_, refl, sym, ap, _∙_}
+use mathlib.Core.Logic.{_≢_, ⊎-elim}
+use mathlib.Core.Bool.{Bool, true, false, _&&_, false≢true}
+use mathlib.Core.List.{List, [], _∷_, _++_, map, map-append}
+use Prim.Native.Nat.{ℕ, zero, suc, _+_, _*_, _<_, _≤_}
+use native.Mathlib.Omega.{arith}
+use lib.Dec.{eqb}
+use lib.ListN.{length, length-map, length-append}
+use borrow.Author.Tests.{eq-eqb, eqb-true}
+use Rattle.card.proofs.Bools.{cases, pick-of}
+use Rattle.line.specs.declared.step.Answer.{Answer}
+use Rattle.line.specs.declared.step.Answer.the-variants.{Refused, Quiet, Recovered, Passed, Unanswered, TokenLost, Held}
+use Rattle.line.specs.Network.{rows, phase, holder, LOST, regsAt, onLineAt, isNode, topId, shape}
+use Rattle.line.specs.Step.{step, highest, answerValue}
+use Rattle.line.proofs.Folds.{clash, seek-is, some-not}
+use Rattle.line.proofs.Shapes.{Held as IsHeld, shape-ids}
+use Rattle.line.proofs.Nodes.{node-online, node-id, nodeOf-found, online-id}
+use Rattle.line.proofs.StepShape.{highest-held}
+use Rattle.desk.specs.declared.laps.Taker.{Taker}
+use Rattle.desk.specs.Lap.{online, nodes, after, answers, invitation, passed, invitations, takers, firstHolder, back, lapSteps}
+use Rattle.line.proofs.View.{Rams, Alike, alike-same, alike-then, AfterLost, lost-step, any-step}
+use Rattle.desk.proofs.Ring.{Call, Took, Missed, Spoke, Ring, roster, turn}
+use Rattle.desk.proofs.Roster.{takes, invites}
+use Rattle.desk.proofs.Count.{Ids, some-online, roster-online, top-above}
+use Rattle.desk.proofs.FirstLap.{other, Never, before, Lap, lap, never-before, lap-takes, lap-counts}
+use Rattle.desk.proofs.Steps.{after-none, after-first, after-more, answers-first, answers-more, seen, invitations-seen, takers-seen}
+use Rattle.desk.proofs.Told.{never-at, not-to, took-passed}
+use Rattle.desk.proofs.Follow.{on, row-on, Shows, Followed, follow, Run, runs}
+
+module _ (net : List ℕ) (s : shape net ≡ true) (b : Rams net) (lost : phase net ≡ LOST) (two : 2 ≤ nodes net) where
+  pub ids : Ids net (rows net)
+  ids = record { byte = λ k l. b k l .1; differ = shape-ids net s }
+
+  pub roster-nodes : length (roster (on net s)) ≡ nodes net
+  roster-nodes = roster-online net (rows net) ids
+
+  -- ---- the highest ID, and its row
+  abbrev h : ℕ
+  h = topId net (rows net)
+
+  top-not-0 : h ≡ 0 → ⊥
+  top-not-0 e =
+      let r = some-online net (rows net) (omega arith) in
+      online-id net (r .0) (r .2) (omega (arith, top-above net (rows net) (r .0) (r .1) (r .2)))
+
+  held : IsHeld net (highest net)
+  held = highest-held net top-not-0
+
+  held-id : regsAt net (highest net) .id ≡ h
+  held-id = node-id net (highest net) h (nodeOf-found net h (rows net) (rows net) (held .0) .0)
+
+  small : h < 256
+  small = omega (arith, held-id, b (highest net) (held .0) .1)
+
+  live : on net s h ≡ true
+  live = rw held-id at (row-on net s (highest net) (held .0) (held .1))
+
+  top : (y : ℕ) → h < y → y < 256 → on net s y ≡ false
+  top y a _ =
+      some-not (isNode net y) (rows net)
+      (λ j l. ⊎-elim
+      (λ t. absurd (let i = node-id net j y t in omega (arith, i, top-above net (rows net) j l (node-online net j y t))))
+      (λ f. f) (cases (isNode net y j)))
+
+  many : 2 ≤ length (roster (on net s))
+  many = omega (arith, roster-nodes)
+
+  -- ---- the recovery
+  pub start : AfterLost net s b
+  start = lost-step net s b lost top-not-0
+
+  begin : Shows net s (step net 0 .after) (record { taken = false; holder = h; nid = λ y. y })
+  begin = record {
+    alike = start .alike;
+    phase-is = start .phase;
+    row = rw (start .holder) (held .0);
+    row-on = rw (start .holder) (held .1);
+    row-id = rw (start .holder) held-id;
+    nids = start .nid;
+  }
+
+  -- ---- the lap
+  abbrev first : List ℕ
+  first = step net 0 .after
+
+  abbrev way : List Call
+  way = before (on net s) h small live top many (λ y. y) (λ y o. refl)
+
+  ring : Lap (on net s) h small live top many (λ y. y) (λ y o. refl)
+  ring = lap (on net s) h small live top many (λ y. y) (λ y o. refl)
+
+  run : Run net s first way (ring .last-but-one)
+  run = runs net s (ring .runs) first begin
+
+  abbrev near : List ℕ
+  near = after (length way) first
+
+  end : Followed net s near (Took h, record { taken = true; holder = h; nid = ring .nid })
+  end =
+      let r = ring .last-but-one in
+      rw (ring .ends) at (follow net s near (r .holder) (r .nid) (r .taken) (run .shows))
+
+  -- the steps of a lap: the recovery, those on the way, and the last
+  size : suc (suc (length way)) ≡ 256 + 2 * nodes net
+  size = lap-counts (on net s) h small live top many (λ y. y) (λ y o. refl) .1 ∙ rw roster-nodes
+
+  -- ---- when the token is back
+  pub first-holder : firstHolder net ≡ highest net
+  first-holder = ap holder (after-first 0 net ∙ after-none first) ∙ start .holder
+
+  not-yet : (k : ℕ) → k < suc (length way) → back net k ≡ false
+  unfolding back
+  not-yet zero l = rw (after-none, start .answer)
+  not-yet (suc k) l =
+      rw (after-first, first-holder)
+      (not-to net h (highest net) held-id (step (after k first) 0 .answer)
+      (never-at net h way first (never-before (on net s) h small live top many (λ y. y) (λ y o. refl)) (run .told) k (omega arith)))
+
+  again : back net (suc (length way)) ≡ true
+  unfolding back
+  again =
+      let a = step near 0 .answer in
+      let p : passed a ≡ true = took-passed net h a (ap (other h) (end .told) ∙ eq-eqb h h refl) in
+      let w = end .shows in
+      let q : answerValue a ≡ highest net
+      = end .passed-to p ∙ shape-ids net s _ _ (w .row) (held .0) (w .row-on) (held .1) (w .row-id ∙ sym held-id) in
+      rw (after-first, p, first-holder, q) (eq-eqb (highest net) (highest net) refl)
+
+  pub not-back : (k : ℕ) → k < 255 + 2 * nodes net → back net k ≡ false
+  not-back k l = not-yet k (omega (arith, size))
+
+  pub is-back : back net (255 + 2 * nodes net) ≡ true
+  is-back =
+      let e : 255 + 2 * nodes net ≡ suc (length way) = omega (arith, size) in
+      rw e again
+
+  -- "It makes 256 + 2n line steps"
+  pub lap-steps : lapSteps net ≡ 256 + 2 * nodes net
+  unfolding lapSteps
+  lap-steps = ap suc (seek-is (back net) (256 + 2 * nodes net) (suc (length way)) (omega (arith, size)) again not-yet) ∙ size
+
+  -- ---- what is counted of the lap
+  told : map (seen net) (answers (suc (suc (length way))) net) ≡ Spoke ∷ (way ++ (Took h ∷ []))
+  told =
+      rw (answers-first, answers-more, map-append, start .answer, run .told, end .told)
+
+  whole : map (seen net) (answers (lapSteps net) net) ≡ Spoke ∷ (way ++ (Took h ∷ []))
+  whole = rw (lap-steps, ← size) told
+
+  -- each node on line has an entry, lowest ID first
+  pub lap-ids : map (λ (t : Taker). t .id) (takers net 0 (answers (lapSteps net) net)) ≡ roster (on net s)
+  lap-ids = takers-seen net _ 0 ∙ ap takes whole ∙ lap-takes (on net s) h small live top many (λ y. y) (λ y o. refl)
+
+  pub lap-total : invitations (answers (lapSteps net) net) ≡ 256 + nodes net
+  lap-total =
+      invitations-seen net _ ∙ ap invites whole ∙ lap-counts (on net s) h small live top many (λ y. y) (λ y o. refl) .0 ∙ rw roster-nodes
+
+  pub lap-entries : length (takers net 0 (answers (lapSteps net) net)) ≡ nodes net
+  lap-entries = sym (length-map (takers net 0 (answers (lapSteps net) net)) (λ (t : Taker). t .id)) ∙ ap length lap-ids ∙ roster-nodes

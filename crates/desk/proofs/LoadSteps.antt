@@ -1,0 +1,122 @@
+-- Loading as the code goes: each write keeps SHAPE and the number of rows, whatever the rows were, and the calls put together give the network.
+-- Assumes nothing.
+use mathlib.Core.Path.{_≡_, refl, sym, _∙_}
+use mathlib.Core.Bool.{Bool, true, false, not}
+use mathlib.Core.List.{List}
+use Prim.Native.Nat.{ℕ, zero, suc, _+_, _≤_, _<_}
+use native.Mathlib.Numerals.{add-one}
+use native.Mathlib.Omega.{arith}
+use lib.Bits.{bitAnd}
+use lib.ListN.{length}
+use borrow.Author.Tests.{eq-eqb, ne-eqb, not-true, not-false}
+use Rattle.card.specs.declared.numbers.Cases.{Cases}
+use Rattle.card.specs.Words.{pick, has}
+use Rattle.card.specs.CaseFields.{with-order}
+use Rattle.card.specs.Numbers.{none, numberOf}
+use Rattle.card.proofs.Order.{number-order}
+use Rattle.line.specs.Network.{rows, shape}
+use Rattle.line.specs.Calls.{netAfterWrite, freshNumber, netAfterFresh, freshNet}
+use Rattle.line.proofs.Fresh.{fresh-refused, fresh-net, header-fresh}
+use Rattle.line.proofs.CallsKeep.{write-keeps, fresh-keeps}
+use Rattle.line.proofs.Beside.{write-beside}
+use Rattle.desk.specs.Order.{records, recordAt, idAt, flagsOf, RECEIVE, LONG, orderFits}
+use Rattle.desk.specs.Load.{set19, setId, setLong, setReceive, loadedRow, loadedRows, loadNumber, netAfterLoad}
+use Rattle.desk.proofs.OrderLaws.{order-records}
+
+-- `new` may be written where `net` may
+pub record Ready (net new : List ℕ) : Type 0 where
+  pub shaped : shape new ≡ true
+  pub count : rows new ≡ rows net
+  pub long : length new ≡ length net
+
+pub at-place : (net : List ℕ) (k : ℕ) → k < rows net → (x y : List ℕ) → x ≡ y → Ready net y → (shape x ≡ true) × (k < rows x)
+at-place net k l x y e h = rw e (h .shaped, omega (arith, h .count))
+
+-- ---- a row
+-- a write that is made where some bit of f is set, as the code tests it
+module _ (f flags : ℕ) (x y new : List ℕ) where
+  pub is-made : (bitAnd flags f ≡ 0 → ⊥) → new ≡ x → new ≡ pick (has f flags) x y
+  is-made n e = e ∙ rw (ne-eqb (bitAnd flags f) 0 n)
+
+  pub is-skipped : bitAnd flags f ≡ 0 → new ≡ y → new ≡ pick (has f flags) x y
+  is-skipped z e = e ∙ rw (eq-eqb (bitAnd flags f) 0 z)
+
+module _ (net : List ℕ) (k : ℕ) (p : (shape net ≡ true) × (k < rows net)) where
+  ready-write : (a : List ℕ) → Ready net a → (r v : ℕ) → Ready net (netAfterWrite a k r v)
+  ready-write a h r v =
+      let b = write-beside a (h .shaped) k (omega (arith, h .count, p .1)) r v in
+      record { shaped = write-keeps a (h .shaped) k r v; count = b .count ∙ h .count; long = b .long ∙ h .long }
+
+  ready-pick : (b : Bool) (a : List ℕ) → Ready net a → (r v : ℕ) → Ready net (pick b (netAfterWrite a k r v) a)
+  ready-pick true a h r v = ready-write a h r v
+  ready-pick false a h r v = h
+
+  pub ready-19 : Ready net (set19 net k)
+  ready-19 = ready-write net (record { shaped = p .0; count = refl; long = refl }) 6 0x19
+
+  module _ (i flags : ℕ) where
+    pub ready-id : Ready net (setId (set19 net k) k i)
+    ready-id = ready-write _ ready-19 7 i
+
+    pub ready-long : Ready net (setLong (setId (set19 net k) k i) k flags)
+    ready-long = ready-pick (has LONG flags) _ ready-id 1 0x0d
+
+    pub ready-receive : Ready net (setReceive (setLong (setId (set19 net k) k i) k flags) k flags)
+    ready-receive = ready-pick (has RECEIVE flags) _ ready-long 1 0x84
+
+    pub ready-row : Ready net (loadedRow net k i flags)
+    unfolding loadedRow
+    ready-row = ready-write _ ready-receive 6 0x38
+
+-- ---- the rows, one after another
+module _ (order net : List ℕ) where
+  pub rows-none : loadedRows order net 0 ≡ net
+  unfolding loadedRows
+  rows-none = refl
+
+  pub rows-more : (k : ℕ) (x : List ℕ) → x ≡ loadedRows order net k → (i : ℕ) → i ≡ idAt order k → (flags : ℕ) → flags ≡ flagsOf (recordAt order k)
+      → (y : List ℕ) → y ≡ loadedRow x k i flags → y ≡ loadedRows order net (k + 1)
+  unfolding loadedRows
+  rows-more k x e i p flags q y a = a ∙ rw (e, p, q, add-one)
+
+  pub ready-rows : shape net ≡ true → (k : ℕ) → k ≤ rows net → Ready net (loadedRows order net k)
+  unfolding loadedRows
+  ready-rows s zero l = record { shaped = s; count = refl; long = refl }
+  ready-rows s (suc k) l =
+      let h = ready-rows s k (omega arith) in
+      let r = ready-row (loadedRows order net k) k (h .shaped, omega (arith, h .count)) (idAt order k) (flagsOf (recordAt order k)) in
+      record { shaped = r .shaped; count = r .count ∙ h .count; long = r .long ∙ h .long }
+
+-- ---- the call
+module _ (order net : List ℕ) (f : Bool) (e : f ≡ orderFits order) where
+  pub is-unfit : not f ≡ true → (t : Cases) → t ≡ none → (r : ℕ) → r ≡ numberOf (with-order true t)
+      → (r ≡ loadNumber order net) × (net ≡ netAfterLoad order net)
+  unfolding loadNumber netAfterLoad
+  is-unfit h t z r q = (q ∙ rw (z, ← e, not-true f h), rw (← e, not-true f h, number-order))
+
+  module _ (h : not f ≡ false) (n : ℕ) (c : n ≡ records order) (m : ℕ) (p : m ≡ freshNumber net n) (x : List ℕ) (q : x ≡ netAfterFresh net n) where
+    fits : orderFits order ≡ true
+    fits = sym e ∙ not-false f h
+
+    number : m ≡ loadNumber order net
+    unfolding loadNumber
+    number = p ∙ rw (fits, c)
+
+    pub is-refused : (m ≡ 0 → ⊥) → (m ≡ loadNumber order net) × (x ≡ netAfterLoad order net)
+    unfolding netAfterLoad
+    is-refused u = (number, q ∙ sym (fresh-refused net n m p u .1) ∙ rw (← number, ne-eqb m 0 u))
+
+    module _ (z : m ≡ 0) where
+      made : x ≡ freshNet n
+      made = q ∙ fresh-net net n (sym p ∙ z)
+
+      pub at-row : (k : ℕ) → k < n → (y : List ℕ) → y ≡ loadedRows order x k → (shape y ≡ true) × (k < rows y)
+      at-row k l y a =
+          let b = order-records order fits in
+          let w : rows x ≡ n = rw made (header-fresh n .0) in
+          at-place x k (omega arith) y (loadedRows order x k) a
+          (ready-rows order x (rw made (fresh-keeps n (omega arith) (omega arith))) k (omega arith))
+
+      pub is-loaded : (k : ℕ) → k ≡ n → (y : List ℕ) → y ≡ loadedRows order x k → (0 ≡ loadNumber order net) × (y ≡ netAfterLoad order net)
+      unfolding netAfterLoad
+      is-loaded k l y a = (sym z ∙ number, a ∙ rw (← number, eq-eqb m 0 z, q, l, c))

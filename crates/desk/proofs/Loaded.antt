@@ -1,0 +1,144 @@
+-- Loading an order that fits: no write is refused, and the network has a row on line for each record, with its ID, in LOST.
+-- Assumes nothing.
+use mathlib.Core.Path.{_≡_, sym, _∙_, ap}
+use mathlib.Core.Bool.{true, false}
+use mathlib.Core.List.{List}
+use mathlib.Core.Logic.{⊎-elim}
+use Prim.Native.Nat.{ℕ, zero, suc, _≤_, _<_}
+use native.Mathlib.Nat.{not-suc-le-zero, le-of-suc-le-suc, eq-or-lt-of-le}
+use native.Mathlib.Omega.{arith}
+use lib.Dec.{eqb, ltb}
+use lib.ListN.{length}
+use borrow.Author.Tests.{ne-eqb, ltb-true, ltb-false}
+use Rattle.card.specs.Words.{pick}
+use Rattle.card.specs.Row.{regsOf}
+use Rattle.card.specs.Registers.{hardwareReset}
+use Rattle.card.specs.Access.{freshRow}
+use Rattle.card.proofs.Bools.{cases}
+use Rattle.card.proofs.Order.{number-order}
+use Rattle.card.proofs.Stays.{fresh-off}
+use Rattle.card.proofs.Loads.{regs-fresh}
+use Rattle.line.specs.Network.{rowStart, rows, phase, LOST, rowAt, regsAt, onLineAt, isNode, shape}
+use Rattle.line.specs.Calls.{netAfterFresh, freshNet}
+use Rattle.line.proofs.Folds.{clash}
+use Rattle.line.proofs.Nodes.{online-is, node-online, node-id, online-same}
+use Rattle.line.proofs.Fresh.{fresh-room, fresh-net, header-fresh, rowAt-fresh}
+use Rattle.line.proofs.CallsKeep.{fresh-keeps}
+use Rattle.desk.specs.Order.{records, recordAt, idAt, flagsOf, orderFits}
+use Rattle.desk.specs.Load.{loadedRow, loadedRows, loadNumber, netAfterLoad}
+use Rattle.desk.proofs.OrderLaws.{order-records, order-id, order-differ}
+use Rattle.desk.proofs.LoadRow.{Unrefused, row-unrefused, row-loaded, row-on}
+
+abbrev OnLine : List ℕ → ℕ → ℕ → Type 0
+OnLine net k i = (onLineAt net k ≡ true) × (regsAt net k .id ≡ i)
+
+-- the first k records are loaded, and the other rows are fresh
+record Loaded (order net : List ℕ) (k : ℕ) : Type 0 where
+  shaped : shape net ≡ true
+  lost : phase net ≡ LOST
+  count : rows net ≡ records order
+  done : (j : ℕ) → j < k → OnLine net j (idAt order j)
+  rest : (j : ℕ) → k ≤ j → j < records order → rowAt net j ≡ freshRow
+
+fresh-row-off : (net : List ℕ) (j : ℕ) → rowAt net j ≡ freshRow → onLineAt net j ≡ false
+fresh-row-off net j e = sym (online-is net j (regsOf freshRow) false (sym (ap regsOf e)) (sym fresh-off))
+
+module _ (order : List ℕ) (o : orderFits order ≡ true) where
+  loaded-none : Loaded order (freshNet (records order)) 0
+  loaded-none =
+      let n = records order in
+      let h = header-fresh n in
+      let r = order-records order o in record {
+        shaped = fresh-keeps n (r .0) (r .1);
+        lost = h .1;
+        count = h .0;
+        done = λ j l. absurd (not-suc-le-zero l);
+        rest = λ j _ l. rowAt-fresh n j l;
+      }
+
+  module _ (net : List ℕ) (k : ℕ) (w : Loaded order net k) (l : k < records order) where
+    abbrev i : ℕ
+    i = idAt order k
+
+    abbrev flags : ℕ
+    flags = flagsOf (recordAt order k)
+
+    low : k < rows net
+    low = omega (arith, w .count)
+
+    -- no other row is a node with the record's ID
+    alone : (j : ℕ) → j < rows net → (j ≡ k → ⊥) → isNode net i j ≡ false
+    alone j lj ne =
+        ⊎-elim
+        (λ t. ⊎-elim
+        (λ b. absurd (ne (order-differ order o j k (omega (arith, w .count)) l (sym (w .done j (ltb-true j k b) .1) ∙ node-id net j i t))))
+        (λ b. absurd (clash (node-online net j i t) (fresh-row-off net j (w .rest j (ltb-false j k b) (omega (arith, w .count))))))
+        (cases (ltb j k)))
+        (λ t. t) (cases (isNode net i j))
+
+    reset : regsAt net k ≡ hardwareReset
+    reset = ap regsOf (w .rest k (omega arith) l) ∙ regs-fresh
+
+    named : eqb i 0 ≡ false
+    named = ne-eqb i 0 (λ e. omega (arith, order-id order o k l))
+
+    loaded-unrefused : Unrefused net k i flags
+    loaded-unrefused = row-unrefused net (w .shaped) (w .lost) k low reset i flags named alone
+
+    loaded-more : Loaded order (loadedRow net k i flags) (suc k)
+    loaded-more =
+        let x = row-loaded net (w .shaped) (w .lost) k low reset i flags named alone in record {
+          shaped = x .shaped;
+          lost = x .lost;
+          count = x .count ∙ w .count;
+          done = λ j b. ⊎-elim
+              (λ e. rw e (row-on net (w .shaped) (w .lost) k low reset i flags named alone))
+              (λ b. let same = x .others j (omega arith) (λ e. omega arith) in
+              (online-same net (loadedRow net k i flags) j same ∙ w .done j b .0, ap (λ r. regsOf r .id) same ∙ w .done j b .1))
+              (eq-or-lt-of-le (le-of-suc-le-suc b));
+          rest = λ j b lj. x .others j (omega (arith, w .count)) (λ e. omega arith) ∙ w .rest j (omega arith) lj;
+        }
+
+  loaded-first : (k : ℕ) → k ≤ records order → Loaded order (loadedRows order (freshNet (records order)) k) k
+  unfolding loadedRows
+  loaded-first zero l = loaded-none
+  loaded-first (suc k) l = loaded-more (loadedRows order (freshNet (records order)) k) k (loaded-first k (omega arith)) l
+
+-- ---- the number: ORDER, then ROOM
+pub load-order : (order net : List ℕ) → orderFits order ≡ false → loadNumber order net ≡ 14
+unfolding loadNumber
+load-order order net o = rw o number-order
+
+pub load-room : (order net : List ℕ) → orderFits order ≡ true → loadNumber order net ≡ pick (eqb (length net) (rowStart (records order))) 0 13
+unfolding loadNumber
+load-room order net o = let r = order-records order o in rw o (fresh-room net (records order) (r .0) (r .1))
+
+-- ---- an order that is loaded
+module _ (order net : List ℕ) (z : loadNumber order net ≡ 0) where
+  pub loaded-fits : orderFits order ≡ true
+  loaded-fits = ⊎-elim (λ t. t) (λ t. absurd (let e = load-order order net t in omega arith)) (cases (orderFits order))
+
+  made : netAfterFresh net (records order) ≡ freshNet (records order)
+  unfolding loadNumber
+  made = fresh-net net (records order) (rw loaded-fits at z)
+
+  pub never-refused : (k : ℕ) → k < records order
+      → Unrefused (loadedRows order (netAfterFresh net (records order)) k) k (idAt order k) (flagsOf (recordAt order k))
+  never-refused k l =
+      rw made (loaded-unrefused order loaded-fits (loadedRows order (freshNet (records order)) k) k (loaded-first order loaded-fits k (omega arith)) l)
+
+  whole : Loaded order (netAfterLoad order net) (records order)
+  unfolding netAfterLoad
+  whole = rw (z, made) (loaded-first order loaded-fits (records order) (omega arith))
+
+  pub loaded-shape : shape (netAfterLoad order net) ≡ true
+  loaded-shape = whole .shaped
+
+  pub loaded-lost : phase (netAfterLoad order net) ≡ LOST
+  loaded-lost = whole .lost
+
+  pub loaded-rows : rows (netAfterLoad order net) ≡ records order
+  loaded-rows = whole .count
+
+  pub loaded-row : (k : ℕ) → k < records order → (onLineAt (netAfterLoad order net) k ≡ true) × (regsAt (netAfterLoad order net) k .id ≡ idAt order k)
+  loaded-row = whole .done

@@ -1,0 +1,115 @@
+-- What an order that ORDER does not refuse is like, part by part, and what makes one.
+-- Assumes nothing.
+use mathlib.Core.Path.{_≡_, sym}
+use mathlib.Core.Bool.{Bool, true, false, not, _&&_}
+use mathlib.Core.List.{List, [], _∷_}
+use mathlib.Core.Logic.{⊎-elim}
+use Prim.Native.Nat.{ℕ, _*_, _%_, _≤_, _<_}
+use native.Mathlib.Omega.{arith}
+use lib.Dec.{eqb, leb, ltb, lit<}
+use lib.ListN.{length, getD}
+use borrow.Author.Tests.{eqb-true, eq-eqb, ne-eqb, ltb-true, ltb-false, lt-ltb, leb-true, le-leb, not-true}
+use Rattle.card.proofs.Bools.{cases, and-left, and-right, holds}
+use Rattle.line.specs.Network.{rowLimit}
+use Rattle.line.proofs.Folds.{clash, every-at, every-of, some-fails, some-not}
+use Rattle.desk.specs.Order.{recordBytes, records, recordAt, mark, idOf, flagsOf, nameOf, printables, recordFits, recordsFit, idAt, idsDiffer, orderFits}
+use Rattle.desk.proofs.SeenIds.{first}
+
+-- ---- a record by itself: its tests
+abbrev tests : List ℕ → List Bool
+tests r =
+    eqb (getD r 0 0) (getD mark 0 0) ∷ eqb (getD r 1 0) (getD mark 1 0) ∷ leb 1 (idOf r) ∷ leb (flagsOf r) 3 ∷ not (eqb (getD r 4 0) 0x20)
+    ∷ printables (nameOf r) ∷ []
+
+module _ (r : List ℕ) (t : recordFits r ≡ true) where
+  at : (i : ℕ) → i < 6 → getD (tests r) i true ≡ true
+  unfolding recordFits
+  at i l = holds (tests r) t i l
+
+  pub record-id : 0 < idOf r
+  record-id = leb-true _ _ (at 2 (lit< tt))
+
+  pub record-flags : flagsOf r ≤ 3
+  record-flags = leb-true _ _ (at 3 (lit< tt))
+
+pub record-of : (r : List ℕ) → (getD r 0 0 ≡ getD mark 0 0) × (getD r 1 0 ≡ getD mark 1 0) → 0 < idOf r → flagsOf r ≤ 3 → (getD r 4 0 ≡ 0x20 → ⊥)
+    → printables (nameOf r) ≡ true → recordFits r ≡ true
+unfolding recordFits
+record-of r m i f s p = simp (eq-eqb _ _ (m .0), eq-eqb _ _ (m .1), le-leb _ _ i, le-leb _ _ f, ne-eqb _ _ s, p)
+
+-- ---- the records
+abbrev pub Fit : List ℕ → ℕ → Type 0
+Fit order n = (k : ℕ) → k < n → recordFits (recordAt order k) ≡ true
+
+abbrev fits : List ℕ → ℕ → Bool
+fits order k = recordFits (recordAt order k)
+
+pub records-fit : (order : List ℕ) (n : ℕ) → recordsFit order n ≡ true → Fit order n
+unfolding recordsFit
+records-fit order n t k l = every-at (fits order) n k t l
+
+pub records-fit-of : (order : List ℕ) (n : ℕ) → Fit order n → recordsFit order n ≡ true
+unfolding recordsFit
+records-fit-of order n e = every-of (fits order) n e
+
+-- ---- their IDs
+abbrev pub Differ : List ℕ → ℕ → Type 0
+Differ order n = (j k : ℕ) → j < n → k < n → idAt order j ≡ idAt order k → j ≡ k
+
+-- no record below k has the ID of record k
+ids-below : (order : List ℕ) (n : ℕ) → idsDiffer order n ≡ true → (j k : ℕ) → j < k → k < n → idAt order j ≡ idAt order k → ⊥
+unfolding idsDiffer
+ids-below order n t j k b l e =
+    let f : first order k ≡ true = every-at (first order) n k t l in
+    clash (eq-eqb _ _ e) (some-fails (λ j. eqb (idAt order j) (idAt order k)) k j (not-true _ f) b)
+
+pub ids-differ : (order : List ℕ) (n : ℕ) → idsDiffer order n ≡ true → Differ order n
+ids-differ order n t j k lj lk e =
+    ⊎-elim (λ b. absurd (ids-below order n t j k (ltb-true _ _ b) lk e))
+    (λ b. ⊎-elim (λ a. absurd (ids-below order n t k j (ltb-true _ _ a) lj (sym e)))
+    (λ a. omega (arith, ltb-false j k b, ltb-false k j a)) (cases (ltb k j))) (cases (ltb j k))
+
+pub ids-differ-of : (order : List ℕ) (n : ℕ) → Differ order n → idsDiffer order n ≡ true
+unfolding idsDiffer
+ids-differ-of order n d = every-of (first order) n (λ k l. rw (some-not (λ j. eqb (idAt order j) (idAt order k)) k (apart k l)))
+  where
+    apart : (k : ℕ) → k < n → (j : ℕ) → j < k → eqb (idAt order j) (idAt order k) ≡ false
+    apart k l j b = ne-eqb _ _ (λ e. let z = d j k (omega arith) l e in omega arith)
+
+-- ---- the parts of ORDER
+parts : (a b c d e : Bool) → (a && b && c && d && e) ≡ true → (a ≡ true) × (b ≡ true) × (c ≡ true) × (d ≡ true) × (e ≡ true)
+parts a b c d e h =
+    let x = and-left (a && b && c && d) e h in
+    let y = and-left (a && b && c) d x in
+    let z = and-left (a && b) c y in
+    (and-left a b z, and-right a b z, and-right (a && b) c y, and-right (a && b && c) d x, and-right (a && b && c && d) e h)
+
+module _ (order : List ℕ) (o : orderFits order ≡ true) where
+  told : (eqb (length order % recordBytes) 0 ≡ true) × (ltb 0 (records order) ≡ true) × (leb (records order) rowLimit ≡ true)
+      × (recordsFit order (records order) ≡ true) × (idsDiffer order (records order) ≡ true)
+  unfolding orderFits
+  told =
+      parts (eqb (length order % recordBytes) 0) (ltb 0 (records order)) (leb (records order) rowLimit) (recordsFit order (records order))
+      (idsDiffer order (records order)) o
+
+  pub order-length : length order ≡ recordBytes * records order
+  unfolding records
+  order-length = omega (arith, eqb-true (length order % recordBytes) 0 (told .0))
+
+  pub order-records : (0 < records order) × (records order ≤ rowLimit)
+  order-records = (ltb-true _ _ (told .1), leb-true _ _ (told .2))
+
+  pub order-record : (k : ℕ) → k < records order → recordFits (recordAt order k) ≡ true
+  order-record = records-fit order (records order) (told .3)
+
+  pub order-id : (k : ℕ) → k < records order → 0 < idAt order k
+  order-id k l = record-id (recordAt order k) (order-record k l)
+
+  pub order-differ : (j k : ℕ) → j < records order → k < records order → idAt order j ≡ idAt order k → j ≡ k
+  order-differ = ids-differ order (records order) (told .4)
+
+pub order-of : (order : List ℕ) → length order ≡ recordBytes * records order → (0 < records order) × (records order ≤ rowLimit)
+    → Fit order (records order) → Differ order (records order) → orderFits order ≡ true
+unfolding orderFits
+order-of order l n f d =
+    rw (eq-eqb (length order % recordBytes) 0 (omega arith), lt-ltb _ _ (n .0), le-leb _ _ (n .1), records-fit-of order (records order) f, ids-differ-of order (records order) d)

@@ -1,0 +1,44 @@
+-- `desk::laps::online` meets its contract. The loop's invariant: the count is that of the rows passed.
+-- Assumes nothing.
+use mathlib.Core.Logic.{⊎-elim}
+use mathlib.Core.Path.{_≡_, sym, ap, _∙_}
+use Prim.Native.Nat.{ℕ, _+_, _≤_, _-_}
+use native.Mathlib.Omega.{arith}
+use borrow.Author.Needs.{needs}
+use Rattle.line.proofs.Nodes.{online-is}
+use Rattle.desk.specs.Lap.{online}
+use Rattle.desk.proofs.Count.{online-none, online-more}
+use Rattle.desk.proofs.laps.online.Statement.{statement}
+use Rattle.desk.proofs.laps.online.Tie as tie
+
+abbrev Inv-loop : tie.InvT-loop
+Inv-loop net n count₀ k₀ count k = (k ≤ n) × (count ≤ k) × (count ≡ online net k)
+
+abbrev μ-loop : tie.MeasureT-loop
+μ-loop net n count₀ k₀ count k = n - k
+
+loop-holds : tie.Need-loop-holds Inv-loop μ-loop
+loop-holds c = (search needs, search needs, sym (online-none _))
+
+loop-again : tie.Need-loop-again Inv-loop μ-loop
+loop-again c =
+    let o = c .before in
+    let g = o .before in
+    let l = g .before .before .loop in
+    let e = sym (online-is _ _ _ _ (g .regs-at .ensures) (o .on-line .ensures)) in
+    ⊎-elim
+    (λ w. (search needs, omega (arith, w .1, l .inv .1), w .1 ∙ ap (λ (x : ℕ). x + 1) (l .inv .2) ∙ sym (online-more _ _ ∙ rw (e ∙ w .0 .taken))))
+    (λ w. (search needs, omega (arith, w .1, l .inv .1), w .1 ∙ l .inv .2 ∙ sym (online-more _ _ ∙ rw (e ∙ w .0 .left))))
+    (c .if1 .came)
+
+returns : tie.Need-returns Inv-loop μ-loop
+returns c =
+    let l = c .before .loop .inv in
+    let e : c .before .loop .k ≡ c .before .before .before .args .n = omega arith in
+    (rw e at (l .2), omega arith)
+
+pub online-spec : {M : Type 1} → statement M
+online-spec =
+    tie.close
+    (tie.spec Inv-loop μ-loop loop-holds (λ c κs. search needs) (λ c κs. search needs) (λ c. search needs) (λ c. search needs)
+    (λ c. search needs) loop-again returns)

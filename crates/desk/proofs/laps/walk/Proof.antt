@@ -1,0 +1,28 @@
+-- `desk::laps::walk` meets its contract. Assumes nothing.
+use mathlib.Core.Path.{sym, _∙_}
+use borrow.Author.Needs.{needs}
+use Rattle.desk.proofs.LapNumber.{lap-shape, lap-lost, lap-two}
+use Rattle.desk.proofs.LapDone.{refused, run}
+use Rattle.desk.proofs.laps.walk.Statement.{statement}
+use Rattle.desk.proofs.laps.walk.Tie as tie
+
+returns : tie.Need-returns
+returns c = let i = c .before in refused _ _ _ (i .before .lap-number .ensures) (i .if1 .taken) (c .nobody .result)
+
+run-requires : tie.Need-run-requires
+run-requires c κs =
+    let i = c .before in
+    let z = sym (i .before .lap-number .ensures) ∙ i .if1 .left in
+    (lap-shape _ _ z, (lap-lost _ _ z, lap-two _ _ z))
+
+returns-2 : tie.Need-returns-2
+returns-2 c =
+    let r = c .before .before in
+    let i = r .before .before in
+    let q = r .run .ensures in
+    run _ _ _ (i .before .lap-number .ensures) (i .if1 .left) _ _ _ _ (q .0, q .1 .0, q .1 .1 .0, q .1 .1 .1)
+
+pub walk-spec : {M : Type 1} → statement M
+walk-spec =
+    tie.close
+    (tie.spec (λ c κs. search needs) (λ c κs. search needs) (λ c. search needs) returns run-requires (λ c. search needs) returns-2)

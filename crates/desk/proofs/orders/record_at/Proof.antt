@@ -1,0 +1,16 @@
+-- `desk::orders::record_at` meets its contract. Assumes nothing.
+use mathlib.Core.Path.{_∙_, ap}
+use lib.ListN.{length}
+use borrow.Author.Needs.{needs}
+use Rattle.desk.proofs.Records.{mid-record, length-recordAt}
+use Rattle.desk.proofs.orders.record_at.Statement.{statement}
+use Rattle.desk.proofs.orders.record_at.Tie as tie
+
+returns : tie.Need-returns
+returns c = (mid-record _ _, ap length (mid-record _ _) ∙ length-recordAt _ _ (c .before .pre))
+
+pub record-at-spec : {M : Type 1} → statement M
+record-at-spec =
+    tie.close
+    (tie.spec (λ c. search needs) (λ c. search needs) (λ c. search needs) (λ c. search needs)
+    (λ c. search needs) returns)

@@ -1,0 +1,189 @@
+// Document 01, "Order forms and the lap": the lap call.
+ghost use mathlib.Core.Path.{_≡_};
+ghost use mathlib.Core.Bool.{true};
+ghost use mathlib.Core.List.{_++_};
+ghost use Prim.Native.Nat.{_≤_, _<_};
+ghost use lib.ListN.{length, take, drop};
+ghost use Rattle.line.specs.Network.{LOST, rowStart, phase, shape};
+ghost use Rattle.desk.specs.Lap.{online, nodes, invitation, passed, invitations, takers, answers, after, lapSteps, lapNumber, lapped, netAfterLap, lapTakers, listAfterLap};
+use card::numbers::Cases;
+use line::network::LOST;
+use line::network::ROWS;
+use line::network::regs_at;
+use line::network::rows;
+use line::network::shape;
+use line::step::Answer;
+use line::step::step_on;
+
+// A row that took the token: its node ID, its number from 0, and the invitations since the holder before.
+pub struct Taker {
+    pub id: u8,
+    pub row: u8,
+    pub invitations: u16,
+}
+
+// What the lap call answers: the refusal's number, 0 for none, and the total, 0 beside a refusal.
+pub struct Lapped {
+    pub number: u8,
+    pub total: u16,
+}
+
+// A lap that was run: what it answers, and the takers, the first n of the list.
+pub struct Walked {
+    pub lapped: Lapped,
+    pub n: usize,
+    pub list: [Taker; 60],
+}
+
+// The answers that tell of an invitation.
+fn invitation(answer: Answer) -> bool
+    ensures { λ r. ⌜ r ≡ invitation answer ⌝ }
+{
+    match answer {
+        Answer::Refused(_) => false,
+        Answer::Quiet => false,
+        Answer::Recovered(_) => false,
+        Answer::Passed(_) => true,
+        Answer::Unanswered(_) => true,
+        Answer::TokenLost => false,
+        Answer::Held(_) => false,
+    }
+}
+
+// The answers that tell of an invitation that was taken.
+fn passed(answer: Answer) -> bool
+    ensures { λ r. ⌜ r ≡ passed answer ⌝ }
+{
+    match answer {
+        Answer::Refused(_) => false,
+        Answer::Quiet => false,
+        Answer::Recovered(_) => false,
+        Answer::Passed(_) => true,
+        Answer::Unanswered(_) => false,
+        Answer::TokenLost => false,
+        Answer::Held(_) => false,
+    }
+}
+
+// The nodes on line among the first n rows.
+fn online(net: &[u8], n: usize) -> usize
+    requires { ⌜ rowStart n ≤ length (now net) ⌝ }
+    ensures { λ r. ⌜ (r ≡ online (now (net .entry)) n) × (r ≤ n) ⌝ }
+{
+    let mut count = 0;
+    let mut k = 0;
+    while k < n {
+        if regs_at(net, k).on_line() {
+            count += 1;
+        }
+        k += 1;
+    }
+    count
+}
+
+// SHAPE, BUSY, ALONE and ROOM, in a list of `room` entries.
+fn lap_number(net: &[u8], room: usize) -> u8
+    ensures { λ r. ⌜ r ≡ lapNumber (now (net .entry)) room ⌝ }
+{
+    let mut cases = Cases::none();
+    if !shape(net) {
+        cases.shape = true;
+        return cases.number();
+    }
+    let nodes = online(net, rows(net));
+    cases.busy = net[4] != LOST;
+    cases.alone = nodes < 2;
+    cases.room = room < nodes;
+    cases.number()
+}
+
+// A list of takers with nobody in it yet.
+fn nobody() -> [Taker; 60]
+    ensures { λ r. ⌜ length r ≡ 60 ⌝ }
+{
+    [Taker {
+        id: 0,
+        row: 0,
+        invitations: 0,
+    }; 60]
+}
+
+// Fault-free steps from LOST until the first holder has the token again.
+fn run(net: &mut [u8]) -> Walked
+    requires { ⌜ shape (now net) ≡ true ⌝ }
+    requires { ⌜ phase (now net) ≡ LOST ⌝ }
+    requires { ⌜ 2 ≤ nodes (now net) ⌝ }
+    ensures answer { λ r. ⌜ r .lapped ≡ record { number = 0; total = invitations (answers (lapSteps (now (net .entry))) (now (net .entry))) } ⌝ }
+    ensures count { λ r. ⌜ r .n ≡ nodes (now (net .entry)) ⌝ }
+    ensures list { λ r. ⌜ take (r .n) (r .list) ≡ takers (now (net .entry)) 0 (answers (lapSteps (now (net .entry))) (now (net .entry))) ⌝ }
+    ensures bytes { λ _. ⌜ now (net .exit) ≡ after (lapSteps (now (net .entry))) (now (net .entry)) ⌝ }
+{
+    let first = step_on(net, 0).value();
+    let mut list = nobody();
+    let mut n = 0;
+    let mut since = 0;
+    let mut total = 0;
+    let mut back = false;
+    while !back {
+        let answer = step_on(net, 0);
+        if invitation(answer) {
+            since += 1;
+            total += 1;
+        }
+        if passed(answer) {
+            let row = answer.value();
+            list[n] = Taker {
+                id: regs_at(net, row).id,
+                row: row as u8,
+                invitations: since,
+            };
+            n += 1;
+            since = 0;
+            back = row == first;
+        }
+    }
+    Walked {
+        lapped: Lapped { number: 0, total },
+        n,
+        list,
+    }
+}
+
+// The lap, for a list of `room` entries.
+pub fn walk(net: &mut [u8], room: usize) -> Walked
+    ensures { λ r. ⌜ (r .n ≤ 60) × (r .n ≤ room) × (take (r .n) (r .list) ≡ lapTakers (now (net .entry)) room)
+        × (r .lapped ≡ lapped (now (net .entry)) room) × (now (net .exit) ≡ netAfterLap (now (net .entry)) room) ⌝ }
+{
+    let number = lap_number(net, room);
+    if number != 0 {
+        return Walked {
+            lapped: Lapped { number, total: 0 },
+            n: 0,
+            list: nobody(),
+        };
+    }
+    run(net)
+}
+
+// The first n of the list go to the lent entries; the others stay.
+fn fill(takers: &mut [Taker], list: [Taker; 60], n: usize)
+    requires { ⌜ (n ≤ 60) × (n ≤ length (now takers)) ⌝ }
+    ensures { λ _. ⌜ now (takers .exit) ≡ take n list ++ drop n (now (takers .entry)) ⌝ }
+{
+    let mut i = 0;
+    while i < n {
+        takers[i] = list[i];
+        i += 1;
+    }
+}
+
+// The lap call: fault-free steps from LOST until the first holder has the token again, and an entry for each taker.
+pub fn lap(net: &mut [u8], takers: &mut [Taker]) -> Lapped
+    ensures { λ r. ⌜ (r ≡ lapped (now (net .entry)) (length (now (takers .entry))))
+        × (now (net .exit) ≡ netAfterLap (now (net .entry)) (length (now (takers .entry))))
+        × (now (takers .exit) ≡ listAfterLap (now (net .entry)) (now (takers .entry))) ⌝ }
+{
+    let w = walk(net, takers.len());
+    fill(takers, w.list, w.n);
+    w.lapped
+}

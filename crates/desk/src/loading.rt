@@ -1,0 +1,55 @@
+// Document 01, "Order forms and the lap": loading.
+ghost use mathlib.Core.Path.{_≡_};
+ghost use mathlib.Core.Bool.{true};
+ghost use Prim.Native.Nat.{_<_};
+ghost use Rattle.line.specs.Network.{rows, shape};
+ghost use Rattle.desk.specs.Load.{loadedRow, loadNumber, netAfterLoad};
+use crate::orders::LONG;
+use crate::orders::RECEIVE;
+use crate::orders::flags_at;
+use crate::orders::id_at;
+use crate::orders::order_fits;
+use crate::orders::records;
+use card::numbers::Cases;
+use line::calls::fresh;
+use line::calls::write_on;
+
+// A row's registers are written, in 01's order. None of the writes refuses a row that was reset.
+fn load_row(net: &mut [u8], k: usize, id: u8, flags: u8)
+    requires { ⌜ shape (now net) ≡ true ⌝ }
+    requires { ⌜ k < rows (now net) ⌝ }
+    ensures { λ _. ⌜ now (net .exit) ≡ loadedRow (now (net .entry)) k id flags ⌝ }
+{
+    write_on(net, k, 6, 0x19);
+    write_on(net, k, 7, id);
+    if flags & LONG != 0 {
+        write_on(net, k, 1, 0x0d);
+    }
+    if flags & RECEIVE != 0 {
+        write_on(net, k, 1, 0x84);
+    }
+    write_on(net, k, 6, 0x38);
+}
+
+// The network is made anew from the order, a row for each record: row k carries record k's ID.
+pub fn load(order: &[u8], net: &mut [u8]) -> u8
+    ensures number { λ r. ⌜ r ≡ loadNumber (now (order .entry)) (now (net .entry)) ⌝ }
+    ensures bytes { λ _. ⌜ now (net .exit) ≡ netAfterLoad (now (order .entry)) (now (net .entry)) ⌝ }
+{
+    if !order_fits(order) {
+        let mut cases = Cases::none();
+        cases.order = true;
+        return cases.number();
+    }
+    let n = records(order);
+    let number = fresh(net, n);
+    if number != 0 {
+        return number;
+    }
+    let mut k = 0;
+    while k < n {
+        load_row(net, k, id_at(order, k), flags_at(order, k));
+        k += 1;
+    }
+    0
+}

@@ -1,0 +1,137 @@
+// Document 01, "Order forms and the lap": the order form.
+ghost use mathlib.Core.Path.{_≡_};
+ghost use Prim.Native.Nat.{_+_, _*_, _≤_, _<_};
+ghost use lib.ListN.{length};
+ghost use Rattle.desk.specs.Order.{recordBytes, records, recordAt, idAt, flagsOf, printables, recordFits, recordsFit, idsDiffer, orderFits, spaces, nameAt};
+use line::network::ROWS;
+
+const RECORD: usize = 16;
+
+// The fixed bytes that each record begins with.
+const MARK: [u8; 2] = *b"\x4f\x52";
+
+const SPACE: u8 = 0x20;
+
+// Flag bits of a record.
+pub const RECEIVE: u8 = 1;
+
+pub const LONG: u8 = 2;
+
+// The number of whole records.
+pub fn records(order: &[u8]) -> usize
+    ensures { λ r. ⌜ r ≡ records (now (order .entry)) ⌝ }
+{
+    order.len() / RECORD
+}
+
+// A record's part of the order.
+fn record_at(order: &[u8], k: usize) -> &[u8]
+    requires { ⌜ recordBytes * k + recordBytes ≤ length (now order) ⌝ }
+    ensures { λ r. ⌜ now r ≡ recordAt (now (order .entry)) k ⌝ }
+    ensures { λ r. ⌜ length (now r) ≡ recordBytes ⌝ }
+{
+    let a = RECORD * k;
+    &order[a..a + RECORD]
+}
+
+pub fn id_at(order: &[u8], k: usize) -> u8
+    requires { ⌜ recordBytes * k + recordBytes ≤ length (now order) ⌝ }
+    ensures { λ r. ⌜ r ≡ idAt (now (order .entry)) k ⌝ }
+{
+    record_at(order, k)[2]
+}
+
+pub fn flags_at(order: &[u8], k: usize) -> u8
+    requires { ⌜ recordBytes * k + recordBytes ≤ length (now order) ⌝ }
+    ensures { λ r. ⌜ r ≡ flagsOf (recordAt (now (order .entry)) k) ⌝ }
+{
+    record_at(order, k)[3]
+}
+
+// Each byte is a printing character, 20 to 7E.
+fn printable(name: &[u8]) -> bool
+    ensures { λ r. ⌜ r ≡ printables (now (name .entry)) ⌝ }
+{
+    let mut i = 0;
+    while i < name.len() {
+        if (name[i] < SPACE) | (0x7e < name[i]) {
+            return false;
+        }
+        i += 1;
+    }
+    true
+}
+
+fn record_fits(form: &[u8]) -> bool
+    requires { ⌜ length (now form) ≡ recordBytes ⌝ }
+    ensures { λ r. ⌜ r ≡ recordFits (now (form .entry)) ⌝ }
+{
+    (form[0] == MARK[0])
+        & (form[1] == MARK[1])
+        & (1 <= form[2])
+        & (form[3] <= RECEIVE + LONG)
+        & (form[4] != SPACE)
+        & printable(&form[4..RECORD])
+}
+
+fn records_fit(order: &[u8], n: usize) -> bool
+    requires { ⌜ recordBytes * n ≤ length (now order) ⌝ }
+    ensures { λ r. ⌜ r ≡ recordsFit (now (order .entry)) n ⌝ }
+{
+    let mut k = 0;
+    while k < n {
+        if !record_fits(record_at(order, k)) {
+            return false;
+        }
+        k += 1;
+    }
+    true
+}
+
+// The IDs differ: each is looked up in a table of those seen before it.
+fn ids_differ(order: &[u8], n: usize) -> bool
+    requires { ⌜ recordBytes * n ≤ length (now order) ⌝ }
+    ensures { λ r. ⌜ r ≡ idsDiffer (now (order .entry)) n ⌝ }
+{
+    let mut seen = [false; 256];
+    let mut k = 0;
+    while k < n {
+        let i = id_at(order, k) as usize;
+        if seen[i] {
+            return false;
+        }
+        seen[i] = true;
+        k += 1;
+    }
+    true
+}
+
+// ORDER does not refuse the order. Any bytes of any length may be asked about.
+pub fn order_fits(order: &[u8]) -> bool
+    ensures { λ r. ⌜ r ≡ orderFits (now (order .entry)) ⌝ }
+{
+    let n = records(order);
+    (order.len() % RECORD == 0)
+        & (0 < n)
+        & (n <= ROWS)
+        & records_fit(order, n)
+        & ids_differ(order, n)
+}
+
+// The station name of record k without its trailing spaces; nothing where there is no such record.
+pub fn name_at(order: &[u8], k: usize) -> &[u8]
+    ensures { λ r. ⌜ now r ≡ nameAt (now (order .entry)) k ⌝ }
+{
+    if records(order) <= k {
+        return &order[0..0];
+    }
+    let form = record_at(order, k);
+    let mut end = RECORD;
+    while 4 < end {
+        if form[end - 1] != SPACE {
+            return &form[4..end];
+        }
+        end -= 1;
+    }
+    &form[4..4]
+}
