@@ -1,0 +1,34 @@
+-- `lap::takers` is safe: each entry that it prints is one of the sixty.
+-- Assumes nothing.
+use Prim.Native.Nat.{_≤_, _-_}
+use borrow.Author.Needs.{needs}
+use Rattle.lap.proofs.takers.Statement.{statement}
+use Rattle.lap.proofs.takers.Tie as tie
+
+abbrev Inv-loop : tie.InvT-loop
+Inv-loop order list i₀ i-end i = (i ≤ i-end) × (i-end ≤ 60)
+
+abbrev μ-loop : tie.MeasureT-loop
+μ-loop order list i₀ i-end i = i-end - i
+
+pub takers-spec : {M : Type 1} → statement M
+takers-spec =
+    tie.close
+    (tie.spec Inv-loop μ-loop
+    (λ c. search needs)
+    (λ c κs. search needs)
+    (λ c κs. search needs)
+    (λ c. search needs)
+    (λ c κs. search needs)
+    (λ c. search needs)
+    (λ c κs. search needs)
+    (λ c. search needs)
+    (λ c κs. search needs)
+    (λ c. search needs)
+    (λ c. search needs)
+    (λ c. search needs)
+    (λ c κs. search needs)
+    (λ c. search needs)
+    (λ c. search needs)
+    (λ c. search needs)
+    (λ c. search needs))

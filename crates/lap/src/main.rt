@@ -1,0 +1,73 @@
+// The program `lap` (document 01, "Order forms and the lap"): reads an order on standard input, loads it, runs a lap
+// and prints the takers in the order in which they took the token; or the refusal's number.
+ghost use lib.ListN.{length};
+ghost use Prim.Native.Nat.{_≤_};
+use card::row::ROW;
+use desk::laps::Taker;
+use desk::laps::Walked;
+use desk::orders::name_at;
+use desk::orders::records;
+use libc::STDIN_FILENO;
+use line::network::HEADER;
+use line::network::ROWS;
+
+// A byte more than the longest order, so that a longer one is seen to be too long.
+const ORDER: usize = 961;
+
+const NET: usize = HEADER + ROW * ROWS;
+
+fn refuse(number: u8) {
+    print::text(b"REFUSED");
+    print::number(number as usize);
+    print::text(b"\n");
+}
+
+// A taker's line: its ID, its row from 0, the invitations since the holder before, its station.
+fn taker(order: &[u8], t: Taker) {
+    print::decimal(t.id as usize);
+    print::number(t.row as usize);
+    print::number(t.invitations as usize);
+    print::text(b" ");
+    print::text(name_at(order, t.row as usize));
+    print::text(b"\n");
+}
+
+fn takers(order: &[u8], w: Walked)
+    requires { ⌜ w .n ≤ 60 ⌝ }
+{
+    print::text(b"LAP");
+    print::number(w.n);
+    print::text(b" NODES");
+    print::number(w.lapped.total as usize);
+    print::text(b" INVITATIONS\n");
+    let list = w.list;
+    for i in 0..w.n {
+        taker(order, list[i]);
+    }
+}
+
+// The order is loaded into a network of its length, which is lent, and its lap is run.
+fn answer(order: &[u8], net: &mut [u8])
+    requires { ⌜ length (now order) ≤ 961 ⌝ }
+    requires { ⌜ 65296 ≤ length (now net) ⌝ }
+{
+    let size = HEADER + ROW * records(order);
+    let number = desk::loading::load(order, &mut net[0..size]);
+    if number != 0 {
+        refuse(number);
+        return;
+    }
+    let w = desk::laps::walk(&mut net[0..size], ROWS);
+    if w.lapped.number != 0 {
+        refuse(w.lapped.number);
+        return;
+    }
+    takers(order, w);
+}
+
+fn main() {
+    let mut order = [0u8; ORDER];
+    let mut net = [0u8; NET];
+    let read = io::read_full(STDIN_FILENO, &mut order);
+    answer(&order[0..read], &mut net);
+}
