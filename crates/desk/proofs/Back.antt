@@ -12,7 +12,7 @@ use borrow.Author.Tests.{eq-eqb, eqb-true}
 use Rattle.card.proofs.Bools.{cases, pick-of}
 use Rattle.line.specs.declared.step.Answer.{Answer}
 use Rattle.line.specs.declared.step.Answer.the-variants.{Refused, Quiet, Recovered, Passed, Unanswered, TokenLost, Held}
-use Rattle.line.specs.Network.{rows, phase, holder, LOST, regsAt, onLineAt, isNode, topId, shape}
+use Rattle.line.specs.Network.{rows, phase, holder, LOST, TAKEN, regsAt, onLineAt, isNode, topId, shape}
 use Rattle.line.specs.Step.{step, highest, answerValue}
 use Rattle.line.proofs.Folds.{clash, seek-is, some-not}
 use Rattle.line.proofs.Shapes.{Held as IsHeld, shape-ids}
@@ -140,6 +140,18 @@ module _ (net : List ℕ) (s : shape net ≡ true) (b : Rams net) (lost : phase 
   pub lap-steps : lapSteps net ≡ 256 + 2 * nodes net
   unfolding lapSteps
   lap-steps = ap suc (seek-is (back net) (256 + 2 * nodes net) (suc (length way)) (omega (arith, size)) again not-yet) ∙ size
+
+  stops-at : after (lapSteps net) net ≡ step near 0 .after
+  stops-at = rw (lap-steps, ← size, after-more, after-first)
+
+  -- it stops with the first holder in TAKEN
+  pub lap-phase : phase (after (lapSteps net) net) ≡ TAKEN
+  lap-phase = rw (stops-at) (end .shows .phase-is)
+
+  pub lap-holder : holder (after (lapSteps net) net) ≡ highest net
+  lap-holder =
+      let w = end .shows in
+      rw (stops-at) (shape-ids net s _ _ (w .row) (held .0) (w .row-on) (held .1) (w .row-id ∙ sym held-id))
 
   -- ---- what is counted of the lap
   told : map (seen net) (answers (suc (suc (length way))) net) ≡ Spoke ∷ (way ++ (Took h ∷ []))
