@@ -24,9 +24,10 @@ module _ (net : List ℕ) (room : ℕ) where
       e ∙ placed-shape t (t .row) ∙ sym (rw s (placed-shape (lapCases true busy (ltb (nodes net) 2) (ltb room (nodes net))) false))
 
   pub asked : (b : Bool) → b ≡ shape net → not b ≡ false → (t : Cases) → t ≡ none → (n : ℕ) → n ≡ rows net → (m : ℕ) → m ≡ online net n
-      → (k : ℕ) → k ≡ numberOf (with-room (ltb room m) (with-alone (ltb m 2) (with-busy (not (eqb (phase net) LOST)) t))) → k ≡ lapNumber net room
+      → (p : ℕ) → p ≡ phase net → (k : ℕ) → k ≡ numberOf (with-room (ltb room m) (with-alone (ltb m 2) (with-busy (not (eqb p LOST)) t)))
+      → k ≡ lapNumber net room
   unfolding lapNumber
-  asked b eb f t et n en m em k e = e ∙ rw (em, en, et, ← eb, not-false b f)
+  asked b eb f t et n en m em p ep k e = e ∙ rw (ep, em, en, et, ← eb, not-false b f)
 
   -- where the lap is not refused
   module _ (z : lapNumber net room ≡ 0) where

@@ -4,11 +4,12 @@ ghost use mathlib.Core.Bool.{true};
 ghost use mathlib.Core.List.{_++_};
 ghost use Prim.Native.Nat.{_≤_, _<_};
 ghost use lib.ListN.{length, take, drop};
-ghost use Rattle.line.specs.Network.{LOST, rowStart, phase, shape};
+ghost use Rattle.line.specs.Network.{rowLimit, LOST, rowStart, phase, shape};
 ghost use Rattle.desk.specs.Lap.{online, nodes, invitation, passed, invitations, takers, answers, after, lapSteps, lapNumber, lapped, netAfterLap, lapTakers, listAfterLap};
 use card::numbers::Cases;
 use line::network::LOST;
 use line::network::ROWS;
+use line::network::phase;
 use line::network::regs_at;
 use line::network::rows;
 use line::network::shape;
@@ -32,7 +33,7 @@ pub struct Lapped {
 pub struct Walked {
     pub lapped: Lapped,
     pub n: usize,
-    pub list: [Taker; 60],
+    pub list: [Taker; ROWS],
 }
 
 // The answers that tell of an invitation.
@@ -91,21 +92,21 @@ fn lap_number(net: &[u8], room: usize) -> u8
         return cases.number();
     }
     let nodes = online(net, rows(net));
-    cases.busy = net[4] != LOST;
+    cases.busy = phase(net) != LOST;
     cases.alone = nodes < 2;
     cases.room = room < nodes;
     cases.number()
 }
 
 // A list of takers with nobody in it yet.
-fn nobody() -> [Taker; 60]
-    ensures { λ r. ⌜ length r ≡ 60 ⌝ }
+fn nobody() -> [Taker; ROWS]
+    ensures { λ r. ⌜ length r ≡ rowLimit ⌝ }
 {
     [Taker {
         id: 0,
         row: 0,
         invitations: 0,
-    }; 60]
+    }; ROWS]
 }
 
 // Fault-free steps from LOST until the first holder has the token again.
@@ -151,7 +152,7 @@ fn run(net: &mut [u8]) -> Walked
 
 // The lap, for a list of `room` entries.
 pub fn walk(net: &mut [u8], room: usize) -> Walked
-    ensures { λ r. ⌜ (r .n ≤ 60) × (r .n ≤ room) × (take (r .n) (r .list) ≡ lapTakers (now (net .entry)) room)
+    ensures { λ r. ⌜ (r .n ≤ rowLimit) × (r .n ≤ room) × (take (r .n) (r .list) ≡ lapTakers (now (net .entry)) room)
         × (r .lapped ≡ lapped (now (net .entry)) room) × (now (net .exit) ≡ netAfterLap (now (net .entry)) room) ⌝ }
 {
     let number = lap_number(net, room);
@@ -166,8 +167,8 @@ pub fn walk(net: &mut [u8], room: usize) -> Walked
 }
 
 // The first n of the list go to the lent entries; the others stay.
-fn fill(takers: &mut [Taker], list: [Taker; 60], n: usize)
-    requires { ⌜ (n ≤ 60) × (n ≤ length (now takers)) ⌝ }
+fn fill(takers: &mut [Taker], list: [Taker; ROWS], n: usize)
+    requires { ⌜ (n ≤ rowLimit) × (n ≤ length (now takers)) ⌝ }
     ensures { λ _. ⌜ now (takers .exit) ≡ take n list ++ drop n (now (takers .entry)) ⌝ }
 {
     let mut i = 0;

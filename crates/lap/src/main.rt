@@ -2,6 +2,7 @@
 // and prints the takers in the order in which they took the token; or the refusal's number.
 ghost use lib.ListN.{length};
 ghost use Prim.Native.Nat.{_≤_};
+ghost use Rattle.line.specs.Network.{rowLimit, rowStart};
 use card::row::ROW;
 use desk::laps::Taker;
 use desk::laps::Walked;
@@ -33,7 +34,7 @@ fn taker(order: &[u8], t: Taker) {
 }
 
 fn takers(order: &[u8], w: Walked)
-    requires { ⌜ w .n ≤ 60 ⌝ }
+    requires { ⌜ w .n ≤ rowLimit ⌝ }
 {
     print::text(b"LAP");
     print::number(w.n);
@@ -49,7 +50,7 @@ fn takers(order: &[u8], w: Walked)
 // The order is loaded into a network of its length, which is lent, and its lap is run.
 fn answer(order: &[u8], net: &mut [u8])
     requires { ⌜ length (now order) ≤ 961 ⌝ }
-    requires { ⌜ 65296 ≤ length (now net) ⌝ }
+    requires { ⌜ rowStart rowLimit ≤ length (now net) ⌝ }
 {
     let size = HEADER + ROW * records(order);
     let number = desk::loading::load(order, &mut net[0..size]);

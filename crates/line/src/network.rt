@@ -3,7 +3,7 @@ ghost use mathlib.Core.Path.{_≡_};
 ghost use Prim.Native.Nat.{_+_, _≤_, _<_};
 ghost use lib.ListN.{length};
 ghost use Rattle.card.specs.Row.{rowBytes};
-ghost use Rattle.line.specs.Network.{headerBytes, rowStart, rows, turned, rowAt, regsAt, nodeOf, topId, headerFits, rowsFit, idsDiffer, holderFits, shape};
+ghost use Rattle.line.specs.Network.{headerBytes, rowStart, rows, phase, holder, turned, rowAt, regsAt, nodeOf, topId, headerFits, rowsFit, idsDiffer, holderFits, shape};
 use card::regs::Regs;
 use card::row::ROW;
 
@@ -32,6 +32,21 @@ pub fn rows(net: &[u8]) -> usize
     ensures { λ r. ⌜ (r ≡ rows (now (net .entry))) × (r < 256) ⌝ }
 {
     wide(net[3])
+}
+
+pub fn phase(net: &[u8]) -> u8
+    requires { ⌜ headerBytes ≤ length (now net) ⌝ }
+    ensures { λ r. ⌜ r ≡ phase (now (net .entry)) ⌝ }
+{
+    net[4]
+}
+
+// The row that holds; 0 in LOST.
+pub fn holder(net: &[u8]) -> usize
+    requires { ⌜ headerBytes ≤ length (now net) ⌝ }
+    ensures { λ r. ⌜ (r ≡ holder (now (net .entry))) × (r < 256) ⌝ }
+{
+    wide(net[5])
 }
 
 // A row's part of the network.

@@ -21,21 +21,22 @@ online-requires c κs =
     let i = c .before in
     omega (arith, c .rows .ensures .0, shape-length _ (sym (i .before .shape .ensures) ∙ not-false _ (i .if1 .left)))
 
-shared-slice-read-cases : tie.Need-shared-slice-read-cases
-shared-slice-read-cases c =
-    let i = c .before .before .before in
+phase-requires : tie.Need-phase-requires
+phase-requires c κs =
+    let i = c .before .before in
     omega (arith, shape-length _ (sym (i .before .shape .ensures) ∙ not-false _ (i .if1 .left)))
 
 returns-2 : tie.Need-returns-2
 returns-2 c =
-    let m = c .before .before in
+    let p = c .before in
+    let m = p .before in
     let i = m .before .before in
     let s = i .before in
     asked _ _ _ (s .shape .ensures) (i .if1 .left) (s .before .none .result) (s .before .none .ensures) _ (m .before .rows .ensures .0) _ (m .online .ensures .0)
-    _ (c .number2 .ensures)
+    _ (p .phase .ensures) _ (c .number2 .ensures)
 
 pub lap-number-spec : {M : Type 1} → statement M
 lap-number-spec =
     tie.close
     (tie.spec (λ c κs. search needs) (λ c κs. search needs) (λ c κs. search needs) returns rows-requires online-requires
-    shared-slice-read-cases (λ c κs. search needs) returns-2)
+    phase-requires (λ c κs. search needs) returns-2)
