@@ -27,7 +27,8 @@ use Rattle.desk.proofs.Count.{Ids, some-online, roster-online, top-abov
 use Rattle.desk.proofs.FirstLap.{other, Never, before, Lap, lap, never-before, lap-takes, lap-counts}
 use Rattle.desk.proofs.Steps.{after-none, after-first, after-more, answers-first, answers-more, seen, invitations-seen, takers-seen}
 use Rattle.desk.proofs.Told.{never-at, not-to, took-passed}
-use Rattle.desk.proofs.Follow.{on, row-on, Shows, Followed, follow, Run, runs}
+use Rattle.desk.proofs.Shows.{on, row-on, Shows}
+use Rattle.desk.proofs.Follow.{Followed, follow, Run, runs}
 
 module _ (net : List ℕ) (s : shape net ≡ true) (b : Rams net) (lost : phase net ≡ LOST) (two : 2 ≤ nodes net) where
   pub ids : Ids net (rows net)

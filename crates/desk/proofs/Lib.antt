@@ -13,6 +13,7 @@ pub mod Count
 pub mod LapNumber
 pub mod LapDone
 pub mod Steps
+pub mod Shows
 pub mod Follow
 pub mod Told
 pub mod Back
