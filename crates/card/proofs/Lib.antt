@@ -20,3 +20,5 @@ pub mod Loads
 pub mod Traffic
 pub mod PacketLaws
 pub mod Rams
+pub mod Touched
+pub mod CardSums

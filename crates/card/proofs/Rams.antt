@@ -54,22 +54,25 @@ module _ (r : List ℕ) (b : Ram r) where
       (small-take (pageBytes (pageShape r p)) (drop (pageAt p) r) (λ i. rw getD-drop (b (pageAt p + i) (omega arith))))
       (small-zeros (512 - pageBytes (pageShape r p)))
 
-  -- ---- what leaves the RAM so: other registers, the ID in a page, a packet of bytes in a page
+  -- ---- what leaves the RAM so: other registers, a byte anywhere, the ID in a page, a packet of bytes in a page
   pub ram-put : (g : Regs) → Ram (putRegs r g)
   ram-put g i h = rw (put-rest r g i (omega arith)) (b i h)
 
+  pub ram-set : (a v : ℕ) → v < 256 → Ram (set r a v)
+  ram-set a v d i h =
+      ⊎-elim (λ (t : eqb i a ≡ true). rw (eqb-true i a t) there)
+      (λ (t : eqb i a ≡ false). rw (getD-set-other r a i v 0 (eqb-false i a t)) (b i h))
+      (cases (eqb i a))
+    where
+      there : getD (set r a v) a 0 < 256
+      there =
+          ⊎-elim (λ t. rw (getD-set-same r a v 0 (ltb-true a (length r) t)) d)
+          (λ t. rw (List·getD-eq-default (set r a v) 0 {n = a} (omega (arith, length-set r a v, ltb-false a (length r) t))) (omega arith))
+          (cases (ltb a (length r)))
+
   pub ram-stamped : (p : ℕ) → regsOf r .id < 256 → Ram (stamped r p)
   unfolding stamped
-  ram-stamped p d i h =
-      ⊎-elim (λ (t : eqb i (pageAt p) ≡ true). rw (eqb-true i (pageAt p) t) there)
-      (λ (t : eqb i (pageAt p) ≡ false). rw (getD-set-other r (pageAt p) i (regsOf r .id) 0 (eqb-false i (pageAt p) t)) (b i h))
-      (cases (eqb i (pageAt p)))
-    where
-      there : getD (set r (pageAt p) (regsOf r .id)) (pageAt p) 0 < 256
-      there =
-          ⊎-elim (λ t. rw (getD-set-same r (pageAt p) (regsOf r .id) 0 (ltb-true (pageAt p) (length r) t)) d)
-          (λ t. rw (List·getD-eq-default (set r (pageAt p) (regsOf r .id)) 0 {n = pageAt p} (omega (arith, length-set r (pageAt p) (regsOf r .id), ltb-false (pageAt p) (length r) t))) (omega arith))
-          (cases (ltb (pageAt p) (length r)))
+  ram-stamped p d = ram-set (pageAt p) (regsOf r .id) d
 
   module _ (p : ℕ) (k : Packet) (f : pageAt p + pageBytes (k .shape) ≤ length r) (n : 512 ≤ length (k .bytes)) (c : dataAt (k .shape) < 256) (q : Small (k .bytes)) where
     -- at an offset of the page

@@ -60,7 +60,7 @@ module _ (net : List ℕ) (s : shape net ≡ true) (k : ℕ) where
       (λ _. s)
 
   module _ (g v : ℕ) where
-    write-placed : netWriteNumber net k g v ≡ 0 → (placeNumber net k ≡ 0) × (rowWriteNumber net k g v ≡ 0)
+    pub write-placed : netWriteNumber net k g v ≡ 0 → (placeNumber net k ≡ 0) × (rowWriteNumber net k g v ≡ 0)
     unfolding netWriteNumber
     write-placed z =
         ⊎-elim (λ (t : eqb (placeNumber net k) 0 ≡ true). (eqb-true _ _ t, rw t at z))

@@ -30,3 +30,5 @@ pub mod TrafficKeep
 pub mod StepShape
 pub mod StepIs
 pub mod View
+pub mod SameNodes
+pub mod Calm

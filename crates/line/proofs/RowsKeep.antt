@@ -3,27 +3,24 @@
 use mathlib.Core.Path.{_≡_, refl, sym, _∙_, ap}
 use mathlib.Core.Bool.{Bool, true, false}
 use mathlib.Core.List.{List}
-use mathlib.Core.Logic.{⊎-elim}
 use Prim.Native.Nat.{ℕ}
 use native.Mathlib.Omega.{arith}
-use lib.Dec.{eqb}
-use lib.ListN.{length, getD}
-use borrow.Author.Tests.{eqb-true, eqb-false}
+use lib.ListN.{length}
 use Rattle.card.specs.declared.regs.Regs.{Regs}
 use Rattle.card.specs.Row.{rowBytes, regsOf, putRegs, onLine, wellFormed}
-use Rattle.card.specs.Registers.{pointer, readValue, afterRead, afterWrite, hardwareReset}
-use Rattle.card.specs.Refusals.{readNumber, writeNumber}
+use Rattle.card.specs.Registers.{pointer, afterWrite, hardwareReset}
+use Rattle.card.specs.Refusals.{writeNumber}
 use Rattle.card.specs.Access.{pointed, rowAfterRead, ramWritten, rowAfterWrite, rowAfterReset}
 use Rattle.card.specs.Events.{burst}
-use Rattle.card.proofs.Bools.{cases}
 use Rattle.card.proofs.Rows.{regs-put, well-fit}
 use Rattle.card.proofs.Fits.{fit-rules}
 use Rattle.card.proofs.LineKeeps.{keep-burst}
 use Rattle.card.proofs.Kept as card
-use Rattle.card.proofs.Accesses.{read-refused, read-done, write-done, length-ram}
+use Rattle.card.proofs.Accesses.{write-done, length-ram}
 use Rattle.card.proofs.Stays.{well-regs, well-read}
+use Rattle.card.proofs.Touched.{kept-row}
 use Rattle.line.specs.Network.{onRegs}
-use Rattle.line.proofs.ShapesKept.{Kept, kept-same}
+use Rattle.line.proofs.ShapesKept.{Kept}
 
 module _ (r : List ℕ) (l : length r ≡ rowBytes) where
   -- other registers of the same card
@@ -41,17 +38,8 @@ module _ (r : List ℕ) (l : length r ≡ rowBytes) where
 
   pub kept-read : (k : ℕ) → wellFormed r ≡ true → Kept r (rowAfterRead r k)
   kept-read k w =
-      ⊎-elim
-      (λ (t : eqb (readNumber (regsOf r) k) 0 ≡ true). let e : putRegs r (afterRead (regsOf r) k) ≡ rowAfterRead r k
-      = read-done r k (readNumber (regsOf r) k) (regsOf r) refl refl (eqb-true _ _ t) (pointer (regsOf r)) (readValue (regsOf r) (getD r (pointed r) 0) k) refl refl _ refl .1 in
-      rw (← e) (kept-put (afterRead (regsOf r) k) (rw e (well-read r l w k)) (card.kept-read (regsOf r) k)))
-      (λ (t : eqb (readNumber (regsOf r) k) 0 ≡ false). let e : r ≡ rowAfterRead r k
-      = read-refused r k (readNumber (regsOf r) k) (regsOf r) refl refl (eqb-false _ _ t) .1 in
-      same (rowAfterRead r k) e)
-      (cases (eqb (readNumber (regsOf r) k) 0))
-    where
-      same : (s : List ℕ) → r ≡ s → Kept r s
-      same s e = rw (← e) (kept-same r w)
+      let c = kept-row r l k in
+      record { well = well-read r l w k; id = c .id; online = card.on-line-same (regsOf r) (regsOf (rowAfterRead r k)) (c .id) (c .configuration) }
 
   pub reset-off : onLine (regsOf (rowAfterReset r)) ≡ false
   reset-off = ap onLine (regs-put r hardwareReset (omega arith)) ∙ card.reset-off

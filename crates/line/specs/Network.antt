@@ -1,8 +1,9 @@
 -- Document 01, "The saved network": the header, the rows, and when a network is well formed.
 -- Assumes nothing.
-use mathlib.Core.Bool.{Bool, not, _&&_}
+use mathlib.Core.Path.{_≡_}
+use mathlib.Core.Bool.{Bool, true, not, _&&_}
 use mathlib.Core.List.{List, [], _∷_, _++_}
-use Prim.Native.Nat.{ℕ, zero, suc, _+_, _*_}
+use Prim.Native.Nat.{ℕ, zero, suc, _+_, _*_, _<_}
 use lib.Dec.{eqb, leb, ltb}
 use lib.ListN.{length, getD, set, take, drop}
 use Rattle.card.specs.declared.regs.Regs.{Regs}
@@ -102,3 +103,9 @@ holderFits net = pick (eqb (phase net) LOST) (eqb (holder net) 0) (ltb (holder n
 -- a network that SHAPE does not refuse
 unfoldable pub shape : List ℕ → Bool
 shape net = leb headerBytes (length net) && headerFits net && rowsFit net (rows net) && idsDiffer net (rows net) && holderFits net
+
+-- ---- two networks with the same nodes on line: as many rows, the same rows on line, each with the ID that it had
+pub record SameNodes (net new : List ℕ) : Type 0 where
+  pub count : rows new ≡ rows net
+  pub online : (k : ℕ) → k < rows net → onLineAt new k ≡ onLineAt net k
+  pub id : (k : ℕ) → k < rows net → onLineAt net k ≡ true → regsAt new k .id ≡ regsAt net k .id

@@ -1,0 +1,67 @@
+-- Document 01's sums of one card.
+-- Assumes nothing.
+use mathlib.Core.Path.{_≡_, refl}
+use mathlib.Core.Bool.{Bool, true, false}
+use Prim.Native.Nat.{ℕ}
+use borrow.Author.Tests.{not-true}
+use Rattle.card.specs.declared.regs.Regs.{Regs}
+use Rattle.card.specs.declared.packets.Shape.the-variants.{Malformed}
+use Rattle.card.specs.declared.commands.Command.the-variants.{EnableTransmit, EnableReceive}
+use Rattle.card.specs.Words.{clear, has}
+use Rattle.card.specs.Flags.{AUTO-INC, RESET}
+use Rattle.card.specs.Commands.{commandOf}
+use Rattle.card.specs.Registers.{pointer, stepped, hardwareReset, configured}
+use Rattle.card.specs.Packets.{shapeOf, dataBytes}
+use Rattle.card.specs.Events.{risenNid}
+
+-- COUNT of a short packet, whatever byte 3 is and whatever the page; of a long one
+module _ (next : ℕ) (long : Bool) where
+  pub count-2 : shapeOf 2 next long ≡ Malformed
+  unfolding shapeOf
+  count-2 = refl
+
+  pub count-3 : dataBytes (shapeOf 3 next long) ≡ 253
+  unfolding shapeOf
+  count-3 = refl
+
+  pub count-255 : dataBytes (shapeOf 255 next long) ≡ 1
+  unfolding shapeOf
+  count-255 = refl
+
+pub long-3 : shapeOf 0 3 true ≡ Malformed
+unfolding shapeOf
+long-3 = refl
+
+pub long-4 : dataBytes (shapeOf 0 4 true) ≡ 508
+unfolding shapeOf
+long-4 = refl
+
+pub long-255 : dataBytes (shapeOf 0 255 true) ≡ 257
+unfolding shapeOf
+long-255 = refl
+
+-- the pages of two commands
+pub page-2C : commandOf 0x2c ≡ EnableReceive 3 false
+unfolding commandOf
+page-2C = refl
+
+pub page-0B : commandOf 0x0b ≡ EnableTransmit 2
+unfolding commandOf
+page-0B = refl
+
+-- NID, pointer and status
+pub nid-255 : (g : Regs) → g .nid ≡ 255 → risenNid g .nid ≡ 0
+unfolding risenNid
+nid-255 g e = rw e
+
+pub pointer-1023 : (g : Regs) → has AUTO-INC (g .mode) ≡ true → pointer g ≡ 1023 → pointer (stepped g) ≡ 0
+unfolding stepped
+pointer-1023 g a e = rw (a, e)
+
+pub status-reset : hardwareReset .status ≡ 0x91
+unfolding hardwareReset
+status-reset = refl
+
+pub status-written : (g : Regs) (v : ℕ) → has RESET v ≡ true → configured g v .status ≡ 0x91
+unfolding configured
+status-written g v e = rw (not-true (clear RESET v) e)
