@@ -1,32 +1,28 @@
 -- When the token comes back: after the recovery, the 255 + 2n-th step is the first that passes it to the first holder.
 -- Assumes nothing.
 use mathlib.Core.Path.{_≡_, refl, sym, ap, _∙_}
-use mathlib.Core.Logic.{_≢_, ⊎-elim}
-use mathlib.Core.Bool.{Bool, true, false, _&&_, false≢true}
+use mathlib.Core.Logic.{⊎-elim}
+use mathlib.Core.Bool.{true, false}
 use mathlib.Core.List.{List, [], _∷_, _++_, map, map-append}
 use Prim.Native.Nat.{ℕ, zero, suc, _+_, _*_, _<_, _≤_}
 use native.Mathlib.Omega.{arith}
-use lib.Dec.{eqb}
-use lib.ListN.{length, length-map, length-append}
-use borrow.Author.Tests.{eq-eqb, eqb-true}
-use Rattle.card.proofs.Bools.{cases, pick-of}
-use Rattle.line.specs.declared.step.Answer.{Answer}
-use Rattle.line.specs.declared.step.Answer.the-variants.{Refused, Quiet, Recovered, Passed, Unanswered, TokenLost, Held}
-use Rattle.line.specs.Network.{rows, phase, holder, LOST, TAKEN, regsAt, onLineAt, isNode, topId, shape}
+use lib.ListN.{length}
+use borrow.Author.Tests.{eq-eqb}
+use Rattle.card.proofs.Bools.{cases}
+use Rattle.line.specs.Network.{rows, phase, holder, LOST, TAKEN, regsAt, isNode, topId, shape}
 use Rattle.line.specs.Step.{step, highest, answerValue}
-use Rattle.line.proofs.Folds.{clash, seek-is, some-not}
+use Rattle.line.proofs.Folds.{seek-is, some-not}
 use Rattle.line.proofs.Shapes.{Held as IsHeld, shape-ids}
 use Rattle.line.proofs.Nodes.{node-online, node-id, nodeOf-found, online-id}
 use Rattle.line.proofs.StepShape.{highest-held}
-use Rattle.desk.specs.declared.laps.Taker.{Taker}
-use Rattle.desk.specs.Lap.{online, nodes, after, answers, invitation, passed, invitations, takers, firstHolder, back, lapSteps}
-use Rattle.line.proofs.View.{Rams, Alike, alike-same, alike-then, AfterLost, lost-step, any-step}
-use Rattle.desk.proofs.Ring.{Call, Took, Missed, Spoke, Ring, roster, turn}
-use Rattle.desk.proofs.Roster.{takes, invites}
+use Rattle.desk.specs.Lap.{nodes, after, answers, passed, firstHolder, back, lapSteps}
+use Rattle.line.proofs.View.{Rams, AfterLost, lost-step}
+use Rattle.desk.proofs.Ring.{Call, Took, Spoke, roster}
 use Rattle.desk.proofs.Count.{Ids, some-online, roster-online, top-above}
-use Rattle.desk.proofs.FirstLap.{other, Never, before, Lap, lap, never-before, lap-takes, lap-counts}
-use Rattle.desk.proofs.Steps.{after-none, after-first, after-more, answers-first, answers-more, seen, invitations-seen, takers-seen}
+use Rattle.desk.proofs.FirstLap.{other, before, Lap, lap, never-before, lap-counts}
+use Rattle.desk.proofs.Steps.{after-none, after-first, after-more, answers-first, answers-more, seen}
 use Rattle.desk.proofs.Told.{never-at, not-to, took-passed}
+use Rattle.line.proofs.Calm.{alike-nodes}
 use Rattle.desk.proofs.Shows.{on, row-on, Shows}
 use Rattle.desk.proofs.Follow.{Followed, follow, Run, runs}
 
@@ -38,34 +34,34 @@ module _ (net : List ℕ) (s : shape net ≡ true) (b : Rams net) (lost : phase 
   roster-nodes = roster-online net (rows net) ids
 
   -- ---- the highest ID, and its row
-  abbrev h : ℕ
+  abbrev pub h : ℕ
   h = topId net (rows net)
 
-  top-not-0 : h ≡ 0 → ⊥
+  pub top-not-0 : h ≡ 0 → ⊥
   top-not-0 e =
       let r = some-online net (rows net) (omega arith) in
       online-id net (r .0) (r .2) (omega (arith, top-above net (rows net) (r .0) (r .1) (r .2)))
 
-  held : IsHeld net (highest net)
+  pub held : IsHeld net (highest net)
   held = highest-held net top-not-0
 
-  held-id : regsAt net (highest net) .id ≡ h
+  pub held-id : regsAt net (highest net) .id ≡ h
   held-id = node-id net (highest net) h (nodeOf-found net h (rows net) (rows net) (held .0) .0)
 
-  small : h < 256
+  pub small : h < 256
   small = omega (arith, held-id, b (highest net) (held .0) .1)
 
-  live : on net s h ≡ true
+  pub live : on net s h ≡ true
   live = rw held-id at (row-on net s (highest net) (held .0) (held .1))
 
-  top : (y : ℕ) → h < y → y < 256 → on net s y ≡ false
+  pub top : (y : ℕ) → h < y → y < 256 → on net s y ≡ false
   top y a _ =
       some-not (isNode net y) (rows net)
       (λ j l. ⊎-elim
       (λ t. absurd (let i = node-id net j y t in omega (arith, i, top-above net (rows net) j l (node-online net j y t))))
       (λ f. f) (cases (isNode net y j)))
 
-  many : 2 ≤ length (roster (on net s))
+  pub many : 2 ≤ length (roster (on net s))
   many = omega (arith, roster-nodes)
 
   -- ---- the recovery
@@ -74,7 +70,9 @@ module _ (net : List ℕ) (s : shape net ≡ true) (b : Rams net) (lost : phase 
 
   begin : Shows net s (step net 0 .after) (record { taken = false; holder = h; nid = λ y. y })
   begin = record {
-    alike = start .alike;
+    fits = start .alike .fits;
+    rams = start .alike .rams;
+    nodes = alike-nodes (start .alike);
     phase-is = start .phase;
     row = rw (start .holder) (held .0);
     row-on = rw (start .holder) (held .1);
@@ -86,10 +84,10 @@ module _ (net : List ℕ) (s : shape net ≡ true) (b : Rams net) (lost : phase 
   abbrev first : List ℕ
   first = step net 0 .after
 
-  abbrev way : List Call
+  abbrev pub way : List Call
   way = before (on net s) h small live top many (λ y. y) (λ y o. refl)
 
-  ring : Lap (on net s) h small live top many (λ y. y) (λ y o. refl)
+  abbrev pub ring : Lap (on net s) h small live top many (λ y. y) (λ y o. refl)
   ring = lap (on net s) h small live top many (λ y. y) (λ y o. refl)
 
   run : Run net s first way (ring .last-but-one)
@@ -104,7 +102,7 @@ module _ (net : List ℕ) (s : shape net ≡ true) (b : Rams net) (lost : phase 
       rw (ring .ends) at (follow net s near (r .holder) (r .nid) (r .taken) (run .shows))
 
   -- the steps of a lap: the recovery, those on the way, and the last
-  size : suc (suc (length way)) ≡ 256 + 2 * nodes net
+  pub size : suc (suc (length way)) ≡ 256 + 2 * nodes net
   size = lap-counts (on net s) h small live top many (λ y. y) (λ y o. refl) .1 ∙ rw roster-nodes
 
   -- ---- when the token is back
@@ -159,16 +157,5 @@ module _ (net : List ℕ) (s : shape net ≡ true) (b : Rams net) (lost : phase 
   told =
       rw (answers-first, answers-more, map-append, start .answer, run .told, end .told)
 
-  whole : map (seen net) (answers (lapSteps net) net) ≡ Spoke ∷ (way ++ (Took h ∷ []))
+  pub whole : map (seen net) (answers (lapSteps net) net) ≡ Spoke ∷ (way ++ (Took h ∷ []))
   whole = rw (lap-steps, ← size) told
-
-  -- each node on line has an entry, lowest ID first
-  pub lap-ids : map (λ (t : Taker). t .id) (takers net 0 (answers (lapSteps net) net)) ≡ roster (on net s)
-  lap-ids = takers-seen net _ 0 ∙ ap takes whole ∙ lap-takes (on net s) h small live top many (λ y. y) (λ y o. refl)
-
-  pub lap-total : invitations (answers (lapSteps net) net) ≡ 256 + nodes net
-  lap-total =
-      invitations-seen net _ ∙ ap invites whole ∙ lap-counts (on net s) h small live top many (λ y. y) (λ y o. refl) .0 ∙ rw roster-nodes
-
-  pub lap-entries : length (takers net 0 (answers (lapSteps net) net)) ≡ nodes net
-  lap-entries = sym (length-map (takers net 0 (answers (lapSteps net) net)) (λ (t : Taker). t .id)) ∙ ap length lap-ids ∙ roster-nodes

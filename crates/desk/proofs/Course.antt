@@ -21,7 +21,8 @@ use Rattle.desk.specs.declared.laps.Taker.{Taker}
 use Rattle.desk.specs.Lap.{online, nodes, after, answers, invitation, passed, invitations, entry, takers, firstHolder, back, lapSteps}
 use Rattle.desk.proofs.Steps.{after-first, answers-none, answers-first, answers-more, since, takers-none, takers-more}
 use Rattle.desk.proofs.Count.{online-most}
-use Rattle.desk.proofs.Back.{start, first-holder, not-back, is-back, lap-steps, lap-entries}
+use Rattle.desk.proofs.Back.{start, first-holder, not-back, is-back, lap-steps}
+use Rattle.desk.proofs.LapCounts.{lap-entries}
 use Rattle.desk.proofs.Walking.{alikes, after-add, entries, few}
 
 -- step k from this network passes the token to the row q

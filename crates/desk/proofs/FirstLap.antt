@@ -10,7 +10,7 @@ use lib.Dec.{eqb}
 use lib.ListN.{length, length-append}
 use borrow.Author.Tests.{ne-eqb}
 use Rattle.desk.proofs.Ring.{Call, Took, Missed, Spoke, Ring, next, upd, turn, Runs, go, calls, roster, script}
-use Rattle.desk.proofs.Scan.{last, Off, off-later, off-here, own, hear, miss, scan, Scanned, Ready, upd-same, upd-other}
+use Rattle.desk.proofs.Scan.{last, Linked, Off, off-later, off-here, own, hear, miss, scan, Scanned, Ready, upd-same, upd-other}
 use Rattle.desk.proofs.Roster.{takes, invites, takes-append, invites-append, script-takes, script-counts, rotate, roster-is, last-any}
 
 -- the call is not that h took the token
@@ -22,6 +22,10 @@ other h Spoke = false
 abbrev pub Never : ℕ → List Call → Type 0
 Never h [] = Unit {0}
 Never h (a ∷ l) = (other h a ≡ false) × Never h l
+
+linked-last : (xs : List ℕ) (g v : ℕ) (f : ℕ → ℕ) → Linked f g (xs ++ (v ∷ [])) → f (last g xs) ≡ v
+linked-last [] g v f l = l .0
+linked-last (x ∷ xs) g v f l = linked-last xs x v f (l .1)
 
 module _ (on : ℕ → Bool) where
   never : (h k a : ℕ) → Off h a k → Never h (script on a k)
@@ -42,7 +46,7 @@ module _ (on : ℕ → Bool) where
     many : length (roster on) ≡ suc (length (calls on (suc h) 255))
     many = rw (roster-is on h small live top, length-append) (omega arith)
 
-    back : last h (calls on (suc h) 255) ≢ h
+    pub back : last h (calls on (suc h) 255) ≢ h
     back =
         let n : 0 < length (calls on 0 h) = rw (rotate on h small live top) at (others many) in
         let l : last h (calls on 0 h) < h = last-any on h 0 h h (omega arith) (omega arith) n in
@@ -51,7 +55,7 @@ module _ (on : ℕ → Bool) where
         others : length (roster on) ≡ suc (length (calls on (suc h) 255)) → 0 < length (calls on (suc h) 255)
         others m = omega arith
 
-    begin : Ready on (suc h) 255 h (upd f h (next h))
+    pub begin : Ready on (suc h) 255 h (upd f h (next h))
     begin = record {
       room = omega arith;
       here = upd-same f h _ ∙ omega arith;
@@ -64,14 +68,18 @@ module _ (on : ℕ → Bool) where
       pub nid : ℕ → ℕ
       pub runs : Runs on (record { taken = false; holder = h; nid = f }) before last-but-one
       pub ends : turn on last-but-one ≡ (Took h, record { taken = true; holder = h; nid = nid })
+      pub linked : Linked nid h (calls on (suc h) 255 ++ (h ∷ []))
 
     close : Scanned on (suc h) 255 h (upd f h (next h)) → Lap
     close s =
-        let e : s .nid (last h (calls on (suc h) 255)) ≡ h = s .here ∙ omega arith in record {
+        let e : (suc h + 255) % 256 ≡ h = omega arith in
+        let l : Linked (s .nid) h (calls on (suc h) 255 ++ (h ∷ [])) = rw e at (s .linked) in
+        record {
           last-but-one = record { taken = false; holder = last h (calls on (suc h) 255); nid = s .nid };
           nid = s .nid;
           runs = go (miss on h h f (fresh h live) (own on h)) (s .runs);
-          ends = hear on _ h (s .nid) e live (λ q. back (sym q));
+          ends = hear on _ h (s .nid) (linked-last (calls on (suc h) 255) h h (s .nid) l) live (λ q. back (sym q));
+          linked = l;
         }
 
     pub lap : Lap

@@ -18,6 +18,7 @@ use Rattle.line.proofs.View.{alike-then, taker-step, AfterNone, none-step, held
 use Rattle.desk.proofs.Ring.{Call, Took, Missed, Spoke, Ring, next, upd, turn, Runs, stop, go}
 use Rattle.desk.proofs.Scan.{upd-same, upd-other}
 use Rattle.desk.proofs.Steps.{after-none, after-first, answers-none, answers-first, seen}
+use Rattle.line.proofs.Calm.{alike-nodes, same-nodes-then}
 use Rattle.desk.proofs.Shows.{on, Shows, invites, took-row, took-on, took-id, took-heeds, missed}
 
 module _ (net : List ℕ) (s : shape net ≡ true) where
@@ -33,28 +34,30 @@ module _ (net : List ℕ) (s : shape net ≡ true) where
 
     held : Holds true → Followed now (Spoke, record { taken = false; holder = g; nid = f })
     held w =
-        let a = held-step now (w .alike .fits) (w .alike .rams) (w .phase-is) in record {
+        let a = held-step now (w .fits) (w .rams) (w .phase-is) in record {
           told = rw (a .answer);
           passed-to = rw (a .answer) (λ t. absurd (false≢true t));
           shows = record {
-            alike = alike-then (w .alike) (a .alike);
+            fits = a .alike .fits;
+            rams = a .alike .rams;
+            nodes = same-nodes-then (w .nodes) (alike-nodes (a .alike));
             phase-is = a .phase;
             row = rw (a .holder) (w .row);
             row-on = rw (a .holder) (w .row-on);
             row-id = rw (a .holder) (w .row-id);
-            nids = λ k l o. a .nid k (omega (arith, w .alike .count)) ∙ w .nids k l o;
+            nids = λ k l o. a .nid k (omega (arith, w .nodes .count)) ∙ w .nids k l o;
           };
         }
 
     -- nobody took the token: the holder's NID rises, and no other
-    risen : (w : Holds false) → AfterNone now (w .alike .fits) (w .alike .rams) → invited now ≡ f g
+    risen : (w : Holds false) → AfterNone now (w .fits) (w .rams) → invited now ≡ f g
         → (k : ℕ) → k < rows net → onLineAt net k ≡ true → regsAt (step now 0 .after) k .nid ≡ upd f g (next (f g)) (regsAt net k .id)
     risen w a i k l o =
         ⊎-elim
         (λ t. let e : k ≡ holder now = eqb-true k (holder now) t in
         rw e (a .here ∙ ap next i ∙ sym (ap (upd f g (next (f g))) (w .row-id) ∙ upd-same f g (next (f g)))))
         (λ t. let n : k ≢ holder now = eqb-false k (holder now) t in
-        a .there k (omega (arith, w .alike .count)) n ∙ w .nids k l o
+        a .there k (omega (arith, w .nodes .count)) n ∙ w .nids k l o
         ∙ sym (upd-other f g (next (f g)) _ (λ e. n (shape-ids net s k (holder now) l (w .row) o (w .row-on) (e ∙ sym (w .row-id))))))
         (cases (eqb k (holder now)))
 
@@ -64,28 +67,32 @@ module _ (net : List ℕ) (s : shape net ≡ true) where
         by : (b : Bool) → ltb (taker now) (rows now) ≡ b → Followed now (turn (on net s) (record { taken = false; holder = g; nid = f }))
         by true t =
             let q = ltb-true (taker now) (rows now) t in
-            let a = taker-step now (w .alike .fits) (w .alike .rams) (w .phase-is) q in
+            let a = taker-step now (w .fits) (w .rams) (w .phase-is) q in
             rw (took-heeds net s now g f false w q) (record {
               told = rw (a .answer) (ap Took (took-id net s now g f false w q));
               passed-to = rw (a .answer) (λ t. sym (a .holder));
               shows = record {
-                alike = alike-then (w .alike) (a .alike);
+                fits = a .alike .fits;
+                rams = a .alike .rams;
+                nodes = same-nodes-then (w .nodes) (alike-nodes (a .alike));
                 phase-is = a .phase;
                 row = rw (a .holder) (took-row net s now g f false w q);
                 row-on = rw (a .holder) (took-on net s now g f false w q);
                 row-id = rw (a .holder) (took-id net s now g f false w q);
-                nids = λ k l o. a .nid k (omega (arith, w .alike .count)) ∙ w .nids k l o;
+                nids = λ k l o. a .nid k (omega (arith, w .nodes .count)) ∙ w .nids k l o;
               };
             })
         by false t =
             let q = ltb-false (taker now) (rows now) t in
-            let a = none-step now (w .alike .fits) (w .alike .rams) (w .phase-is) q in
+            let a = none-step now (w .fits) (w .rams) (w .phase-is) q in
             let i = invites net s now g f false w in
             rw (missed net s now g f false w q) (record {
               told = rw (a .answer) (ap Missed i);
               passed-to = rw (a .answer) (λ t. absurd (false≢true t));
               shows = record {
-                alike = alike-then (w .alike) (a .alike);
+                fits = a .alike .fits;
+                rams = a .alike .rams;
+                nodes = same-nodes-then (w .nodes) (alike-nodes (a .alike));
                 phase-is = a .phase;
                 row = rw (a .holder) (w .row);
                 row-on = rw (a .holder) (w .row-on);

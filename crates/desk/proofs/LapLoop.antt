@@ -21,7 +21,8 @@ use Rattle.line.proofs.View.{Rams, any-step}
 use Rattle.desk.specs.declared.laps.Taker.{Taker}
 use Rattle.desk.specs.Lap.{nodes, after, answers, invitation, passed, invitations, takers, lapSteps}
 use Rattle.desk.proofs.Steps.{after-more}
-use Rattle.desk.proofs.Back.{start, first-holder, lap-entries}
+use Rattle.desk.proofs.Back.{start, first-holder}
+use Rattle.desk.proofs.LapCounts.{lap-entries}
 use Rattle.desk.proofs.Walking.{alikes}
 use Rattle.desk.proofs.Course.{Course, left, left-is, course, same-count, lap-after, lap-invitations, lap-takers}
 use Rattle.desk.proofs.Going.{Going, passed-invites, begin, step-other, other-next, space, small, below, step-passed, passed-next}

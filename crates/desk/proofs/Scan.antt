@@ -10,10 +10,15 @@ use native.Mathlib.Omega.{arith}
 use borrow.Author.Tests.{eq-eqb, ne-eqb}
 use Rattle.desk.proofs.Ring.{Took, Missed, Ring, next, upd, heeds, turn, Runs, stop, go, calls, script}
 
--- the last of g and the list; each ID's NID is the one after it
+-- the last of g and the list
 abbrev pub last : ℕ → List ℕ → ℕ
 last g [] = g
 last g (x ∷ xs) = last x xs
+
+-- from g through the list, each ID's NID is the ID after it
+abbrev pub Linked : (ℕ → ℕ) → ℕ → List ℕ → Type 0
+Linked f g [] = Unit {0}
+Linked f g (x ∷ xs) = (f g ≡ x) × Linked f x xs
 
 pub upd-same : (f : ℕ → ℕ) (g v : ℕ) → upd f g v g ≡ v
 upd-same f g v = rw (eq-eqb g g refl)
@@ -73,11 +78,12 @@ module _ (on : ℕ → Bool) where
     pub away : Off g a k
     pub fresh : Fresh a k f
 
-  -- the k IDs from a on were invited; the last that took the token invites the next
+  -- the k IDs from a on were invited: each that took the token has the next one's ID for its NID, and the others have the NIDs that they had
   pub record Scanned (a k g : ℕ) (f : ℕ → ℕ) : Type 0 where
     pub nid : ℕ → ℕ
     pub runs : Runs on (record { taken = false; holder = g; nid = f }) (script on a k) (record { taken = false; holder = last g (calls on a k); nid = nid })
-    pub here : nid (last g (calls on a k)) ≡ (a + k) % 256
+    pub linked : Linked nid g (calls on a k ++ ((a + k) % 256 ∷ []))
+    pub frame : (y : ℕ) → y ≢ g → Off y a k → nid y ≡ f y
 
   module _ (k a g : ℕ) (f : ℕ → ℕ) (r : Ready a (suc k) g f) where
     ready-off : Ready (suc a) k g (upd f g (next (a % 256)))
@@ -90,7 +96,8 @@ module _ (on : ℕ → Bool) where
     scan-off o s = record {
       nid = s .nid;
       runs = rw o (go (miss g (a % 256) f (r .here) (rw o)) (s .runs));
-      here = rw (o, ← (shift a k)) (s .here);
+      linked = rw (o, ← (shift a k)) (s .linked);
+      frame = λ y n w. s .frame y n (off-later y a k w) ∙ upd-other f g _ y n;
     }
 
     ready-on : Ready (suc a) k (a % 256) (upd f (a % 256) (next (a % 256)))
@@ -101,17 +108,21 @@ module _ (on : ℕ → Bool) where
     scan-on : on (a % 256) ≡ true → Scanned (suc a) k (a % 256) (upd f (a % 256) (next (a % 256))) → Scanned a (suc k) g f
     unfolding calls script
     scan-on o s =
-        let x = a % 256 in record {
+        let x = a % 256 in
+        let frame : (y : ℕ) → Off y a (suc k) → s .nid y ≡ f y
+        = λ y w. s .frame y (off-here y a k w) (off-later y a k w) ∙ upd-other f x _ y (off-here y a k w) in
+        record {
           nid = s .nid;
           runs = rw o
               (go (hear g x f (r .here) o (λ e. off-here g a k (r .away) (sym e)))
               (go refl (go (miss x x f (fresh-here a k f (r .fresh) o) (own x)) (s .runs))));
-          here = rw (o, ← (shift a k)) (s .here);
+          linked = rw (o, ← (shift a k)) (frame g (r .away) ∙ r .here, s .linked);
+          frame = λ y n w. frame y w;
         }
 
   pub scan : (k a g : ℕ) (f : ℕ → ℕ) → Ready a k g f → Scanned a k g f
   unfolding calls script
-  scan zero a g f r = record { nid = f; runs = stop; here = omega (arith, r .here) }
+  scan zero a g f r = record { nid = f; runs = stop; linked = (omega (arith, r .here), tt); frame = λ y h o. refl }
   scan (suc k) a g f r = case (on (a % 256)) refl (scan k (suc a) g _ (ready-off k a g f r)) (scan k (suc a) _ _ (ready-on k a g f r))
     where
       case : (b : Bool) → on (a % 256) ≡ b → Scanned (suc a) k g (upd f g (next (a % 256)))

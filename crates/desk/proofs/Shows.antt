@@ -14,7 +14,8 @@ use Rattle.line.specs.Step.{invited, taker}
 use Rattle.line.proofs.Folds.{clash, some-at, some-not}
 use Rattle.line.proofs.Shapes.{shape-ids}
 use Rattle.line.proofs.Nodes.{node-of, node-online, node-id, nodeOf-most, nodeOf-found, nodeOf-fails}
-use Rattle.line.proofs.View.{Alike}
+use Rattle.line.proofs.View.{Rams}
+use Rattle.line.specs.Network.{SameNodes}
 use Rattle.desk.proofs.Ring.{Ring, next, heeds}
 use Rattle.desk.proofs.Scan.{and-false}
 use Rattle.desk.proofs.Count.{onFirst}
@@ -33,7 +34,9 @@ module _ (net : List ℕ) (s : shape net ≡ true) where
 
   -- a later network shows the ring
   pub record Shows (now : List ℕ) (r : Ring) : Type 0 where
-    pub alike : Alike net now
+    pub fits : shape now ≡ true
+    pub rams : Rams now
+    pub nodes : SameNodes net now
     pub phase-is : phase now ≡ phaseOf (r .taken)
     pub row : holder now < rows net
     pub row-on : onLineAt net (holder now) ≡ true
@@ -46,14 +49,14 @@ module _ (net : List ℕ) (s : shape net ≡ true) where
     invites = w .nids (holder now) (w .row) (w .row-on) ∙ ap f (w .row-id)
 
     count : rows now ≡ rows net
-    count = w .alike .count
+    count = w .nodes .count
 
     -- a node of the network now was one before, with the same ID, and back
     was-on : (k : ℕ) → k < rows net → onLineAt now k ≡ true → onLineAt net k ≡ true
-    was-on k l o = sym (w .alike .online k l) ∙ o
+    was-on k l o = sym (w .nodes .online k l) ∙ o
 
     is-node : (k : ℕ) → k < rows net → onLineAt net k ≡ true → isNode now (regsAt net k .id) k ≡ true
-    is-node k l o = node-of now k _ (w .alike .online k l ∙ o) (w .alike .id k l)
+    is-node k l o = node-of now k _ (w .nodes .online k l ∙ o) (w .nodes .id k l o)
 
     module _ (q : taker now < rows now) where
       found : (isNode now (invited now) (taker now) ≡ true) × (taker now ≡ holder now → ⊥)
@@ -66,7 +69,7 @@ module _ (net : List ℕ) (s : shape net ≡ true) where
       took-on = was-on (taker now) took-row (node-online now (taker now) (invited now) (found .0))
 
       pub took-id : regsAt net (taker now) .id ≡ f g
-      took-id = sym (w .alike .id (taker now) took-row) ∙ node-id now (taker now) (invited now) (found .0) ∙ invites
+      took-id = sym (w .nodes .id (taker now) took-row took-on) ∙ node-id now (taker now) (invited now) (found .0) ∙ invites
 
       pub took-heeds : heeds on g (f g) ≡ true
       took-heeds =

@@ -1,3 +1,5 @@
 pub mod Order
 pub mod Load
 pub mod Lap
+pub mod Demand
+pub mod Sums

@@ -1,0 +1,121 @@
+-- Before the recovery: the line waits in LOST whatever calls come, and the first step recovers.
+-- Assumes nothing.
+use mathlib.Core.Path.{_≡_, sym, ap, _∙_}
+use mathlib.Core.Bool.{true, false}
+use mathlib.Core.List.{List, [], _∷_}
+use Prim.Native.Nat.{ℕ, suc, _≤_, _<_}
+use native.Mathlib.Nat.{suc-inj}
+use native.Mathlib.Omega.{arith}
+use lib.ListN.{length}
+use Rattle.line.specs.Network.{rows, phase, holder, LOST, regsAt, onLineAt, topId, shape, SameNodes}
+use Rattle.line.specs.Step.{step, highest}
+use Rattle.line.proofs.Nodes.{node-id, nodeOf-found}
+use Rattle.line.proofs.StepShape.{highest-held}
+use Rattle.line.proofs.View.{Rams, alike-same, lost-step}
+use Rattle.desk.specs.Lap.{nodes}
+use Rattle.desk.specs.Demand.{Call, Step, Read, Write, Reset, Look, table, steps, answersOf, Throughout}
+use Rattle.line.proofs.Calm.{Calm, calm-read, calm-write, calm-reset, alike-nodes, same-nodes-then}
+use Rattle.desk.proofs.Ring as ring
+use Rattle.desk.proofs.Ring.{Spoke, Ring, Runs}
+use Rattle.desk.proofs.Count.{top-above}
+use Rattle.desk.proofs.Steps.{seen}
+use Rattle.desk.proofs.Shows.{on, Shows}
+use Rattle.desk.proofs.Back as back
+use Rattle.desk.proofs.History.{nodes-between, Went, went}
+
+module _ (start : List ℕ) (s : shape start ≡ true) (b : Rams start) (lost : phase start ≡ LOST) (two : 2 ≤ nodes start) where
+  pub record Waits (now : List ℕ) : Type 0 where
+    pub fits : shape now ≡ true
+    pub rams : Rams now
+    pub nodes-same : SameNodes start now
+    pub lost-still : phase now ≡ LOST
+
+  still-waits : (now new : List ℕ) → Waits now → Calm now new → Waits new
+  still-waits now new w c = record {
+    fits = c .fits;
+    rams = c .rams;
+    nodes-same = same-nodes-then (w .nodes-same) (c .nodes);
+    lost-still = c .phase-same ∙ w .lost-still;
+  }
+
+  abbrev pub highestId : ℕ
+  highestId = back.h start s b lost two
+
+  -- the highest ID on line is the same
+  module _ (now : List ℕ) (w : Waits now) where
+    n : rows now ≡ rows start
+    n = w .nodes-same .count
+
+    abbrev q : ℕ
+    q = highest start
+
+    q-low : q < rows start
+    q-low = back.held start s b lost two .0
+
+    q-on : onLineAt start q ≡ true
+    q-on = back.held start s b lost two .1
+
+    at-least : highestId ≤ topId now (rows now)
+    at-least =
+        let o : onLineAt now q ≡ true = w .nodes-same .online q q-low ∙ q-on in
+        omega (arith, back.held-id start s b lost two, w .nodes-same .id q q-low q-on, top-above now (rows now) q (omega (arith, n, q-low)) o)
+
+    some-top : topId now (rows now) ≡ 0 → ⊥
+    some-top e = back.top-not-0 start s b lost two (omega (arith, at-least))
+
+    abbrev p : ℕ
+    p = highest now
+
+    p-held : (p < rows now) × (onLineAt now p ≡ true)
+    p-held = highest-held now some-top
+
+    p-low : p < rows start
+    p-low = omega (arith, n, p-held .0)
+
+    p-on : onLineAt start p ≡ true
+    p-on = sym (w .nodes-same .online p p-low) ∙ p-held .1
+
+    p-id : regsAt start p .id ≡ highestId
+    p-id =
+        let i : regsAt now p .id ≡ topId now (rows now) = node-id now p _ (nodeOf-found now _ (rows now) (rows now) (p-held .0) .0) in
+        omega (arith, i, w .nodes-same .id p p-low p-on, at-least, top-above start (rows start) p p-low p-on)
+
+    begins : Shows start s (step now 0 .after) (record { taken = false; holder = highestId; nid = λ y. y })
+    begins =
+        let a = lost-step now (w .fits) (w .rams) (w .lost-still) some-top in record {
+          fits = a .alike .fits;
+          rams = a .alike .rams;
+          nodes = same-nodes-then (w .nodes-same) (alike-nodes (a .alike));
+          phase-is = a .phase;
+          row = rw (a .holder) p-low;
+          row-on = rw (a .holder) p-on;
+          row-id = rw (a .holder) p-id;
+          nids = λ k l o. a .nid k (omega (arith, n)) (w .nodes-same .online k l ∙ o) ∙ w .nodes-same .id k l o;
+        }
+
+    recovers : seen start (step now 0 .answer) ≡ Spoke
+    recovers = let a = lost-step now (w .fits) (w .rams) (w .lost-still) some-top in rw (a .answer)
+
+  -- ---- a history from LOST on
+  abbrev pub beginning : Ring
+  beginning = record { taken = false; holder = highestId; nid = λ y. y }
+
+  pub waits-went : (l : List Call) {t : Ring} {m : List ring.Call} → Runs (on start s) beginning m t → steps l ≡ suc (length m) → (now : List ℕ) → Waits now
+      → Throughout start l now → Went start s now l (Spoke ∷ m) t
+  unfolding table steps answersOf Throughout
+  waits-went [] r e now w h = absurd (omega arith)
+  waits-went (Step ∷ l) r e now w h =
+      let v = went start s l r (suc-inj e) (step now 0 .after) (begins now w) (h .1 .1) in
+      record { told = rw (recovers now w) (ap (Spoke ∷_) (v .told)); shows = v .shows }
+  waits-went (Read k g ∷ l) r e now w h =
+      let v = waits-went l r e _ (still-waits now _ w (calm-read now (w .fits) (w .rams) k g)) (h .1 .1) in record { told = v .told; shows = v .shows }
+  waits-went (Write k g x ∷ l) r e now w h =
+      let c = calm-write now (w .fits) (w .rams) k g x (h .0) (nodes-between start now _ (w .nodes-same) (h .1 .0)) in
+      let v = waits-went l r e _ (still-waits now _ w c) (h .1 .1) in record { told = v .told; shows = v .shows }
+  waits-went (Reset k ∷ l) r e now w h =
+      let c = calm-reset now (w .fits) (w .rams) k (nodes-between start now _ (w .nodes-same) (h .1 .0)) in
+      let v = waits-went l r e _ (still-waits now _ w c) (h .1 .1) in record { told = v .told; shows = v .shows }
+  waits-went (Look ∷ l) r e now w h = let v = waits-went l r e now w (h .1 .1) in record { told = v .told; shows = v .shows }
+
+  pub waits : Waits start
+  waits = record { fits = s; rams = b; nodes-same = alike-nodes (alike-same start s b); lost-still = lost }

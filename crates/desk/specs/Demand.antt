@@ -1,0 +1,100 @@
+-- Demand 3, the lap, over the calls that a host makes, in whatever order they come.
+-- Assumes nothing.
+use mathlib.Core.Path.{_≡_}
+use mathlib.Core.Bool.{true}
+use mathlib.Core.List.{List, [], _∷_, map}
+use Prim.Native.Nat.{ℕ, zero, suc, _+_, _*_, _≤_, _<_}
+use lib.ListN.{getD}
+use Rattle.card.specs.Words.{pick}
+use Rattle.line.specs.declared.step.Answer.{Answer}
+use Rattle.line.specs.Folds.{some}
+use Rattle.line.specs.Network.{rows, phase, holder, LOST, TAKEN, isNode, shape, SameNodes}
+use Rattle.line.specs.Calls.{netAfterRead, netAfterWrite, netAfterReset}
+use Rattle.line.specs.Step.{highest, step}
+use Rattle.desk.specs.declared.laps.Taker.{Taker}
+use Rattle.desk.specs.Lap.{nodes, invitations, takers}
+
+-- "with no line fault, timer expiry, loading or fresh call": a fault-free step, a register read (row, register), a register write (row, register,
+-- value), a hardware reset of a row, and whatever changes nothing: a page reader, an interrupt, every call that is refused
+pub data Call : Type 0 where
+  Step : Call
+  Read : ℕ → ℕ → Call
+  Write : ℕ → ℕ → ℕ → Call
+  Reset : ℕ → Call
+  Look : Call
+
+-- "each call given the table as the last one left it"
+abbrev pub called : Call → List ℕ → List ℕ
+called Step net = step net 0 .after
+called (Read k g) net = netAfterRead net k g
+called (Write k g v) net = netAfterWrite net k g v
+called (Reset k) net = netAfterReset net k
+called Look net = net
+
+unfoldable pub table : List Call → List ℕ → List ℕ
+table [] net = net
+table (c ∷ l) net = table l (called c net)
+
+-- how many of the calls are steps, and what those answer
+abbrev pub counted : Call → ℕ → ℕ
+counted Step n = suc n
+counted (Read k g) n = n
+counted (Write k g v) n = n
+counted (Reset k) n = n
+counted Look n = n
+
+unfoldable pub steps : List Call → ℕ
+steps [] = 0
+steps (c ∷ l) = counted c (steps l)
+
+abbrev pub told : Call → List ℕ → List Answer → List Answer
+told Step net l = step net 0 .answer ∷ l
+told (Read k g) net l = l
+told (Write k g v) net l = l
+told (Reset k) net l = l
+told Look net l = l
+
+unfoldable pub answersOf : List Call → List ℕ → List Answer
+answersOf [] net = []
+answersOf (c ∷ l) net = told c net (answersOf l (called c net))
+
+-- what is written is a byte
+abbrev pub Byte : Call → Type 0
+Byte Step = Unit {0}
+Byte (Read k g) = Unit {0}
+Byte (Write k g v) = v < 256
+Byte (Reset k) = Unit {0}
+Byte Look = Unit {0}
+
+-- "the same nodes on line throughout": after each call the rows on line are those of the start, each with its ID
+unfoldable pub Throughout : List ℕ → List Call → List ℕ → Type 0
+Throughout start [] net = Unit {0}
+Throughout start (c ∷ l) net = Byte c × (SameNodes start (called c net) × Throughout start l (called c net))
+
+-- the IDs on line, lowest first: among the k IDs from a on
+unfoldable pub idsFrom : List ℕ → ℕ → ℕ → List ℕ
+idsFrom net a zero = []
+idsFrom net a (suc k) = pick (some (isNode net a) (rows net)) (a ∷ idsFrom net (suc a) k) (idsFrom net (suc a) k)
+
+abbrev pub idsOnLine : List ℕ → List ℕ
+idsOnLine net = idsFrom net 0 256
+
+-- a lap of the nodes of `start`: what its steps answered, with i invitations, and the network that it ends with
+pub record LapOf (start : List ℕ) (l : List Answer) (i : ℕ) (end : List ℕ) : Type 0 where
+  -- the Unanswered and Passed answers
+  pub invited : invitations l ≡ i
+  -- "each on-line node takes it exactly once, lowest ID first"
+  pub taken : map (λ (t : Taker). t .id) (takers start 0 l) ≡ idsOnLine start
+  -- "until the token is back with the highest ID"
+  pub back : phase end ≡ TAKEN
+  pub with : holder end ≡ highest start
+
+-- "From a well-formed network in LOST with n ≥ 2 nodes on line .. exactly 256 + n invitations from recovery until the token is back with the highest
+-- ID .. every later lap takes exactly n": whatever calls come, the first 256 + 2n steps are the first lap, and the 2n after any number m of laps are a lap
+abbrev pub Demand3 : Type 0
+Demand3 =
+    (net : List ℕ) → ((i : ℕ) → getD net i 0 < 256) → shape net ≡ true → phase net ≡ LOST → 2 ≤ nodes net
+    → (l : List Call) → Throughout net l net
+    → (steps l ≡ 256 + 2 * nodes net → LapOf net (answersOf l net) (256 + nodes net) (table l net))
+    × ((m : ℕ) → steps l ≡ 256 + 2 * nodes net + m * (2 * nodes net) → (l′ : List Call) → Throughout net l′ (table l net) → steps l′ ≡ 2 * nodes net
+    → LapOf net (answersOf l′ (table l net)) (nodes net) (table l′ (table l net)))

@@ -1,0 +1,54 @@
+-- Document 01, "Sums to prove": "in a single list under one theorem".
+-- Assumes nothing.
+use mathlib.Core.Path.{_≡_}
+use mathlib.Core.Bool.{Bool, true, false}
+use mathlib.Core.List.{List, [], _∷_, map}
+use Prim.Native.Nat.{ℕ, _+_, _≤_, _<_}
+use lib.ListN.{getD, take}
+use Rattle.card.specs.declared.regs.Regs.{Regs}
+use Rattle.card.specs.declared.packets.Shape.the-variants.{Malformed}
+use Rattle.card.specs.declared.commands.Command.the-variants.{EnableTransmit, EnableReceive}
+use Rattle.card.specs.Words.{has}
+use Rattle.card.specs.Flags.{AUTO-INC, RESET}
+use Rattle.card.specs.Commands.{commandOf}
+use Rattle.card.specs.Registers.{pointer, stepped, hardwareReset, configured}
+use Rattle.card.specs.Packets.{shapeOf, dataBytes}
+use Rattle.card.specs.Events.{risenNid}
+use Rattle.line.specs.Network.{rows, phase, LOST, topId, shape}
+use Rattle.desk.specs.declared.laps.Taker.{Taker}
+use Rattle.desk.specs.Lap.{nodes, answers, invitations, takers, lapSteps}
+use Rattle.desk.specs.Demand.{idsOnLine}
+
+-- a network that a lap may be run of: of bytes, well formed, in LOST, with two nodes on line or more
+pub record Ready (net : List ℕ) : Type 0 where
+  pub bytes : (i : ℕ) → getD net i 0 < 256
+  pub fits : shape net ≡ true
+  pub lost : phase net ≡ LOST
+  pub two : 2 ≤ nodes net
+
+-- an entry's node ID, and its invitations
+abbrev pub hopOf : Taker → ℕ × ℕ
+hopOf t = (t .id, t .invitations)
+
+pub record Sums : Type 0 where
+  -- "COUNT 2 malformed; 3 gives 253; 255 gives 1": whatever byte 3 is, and whatever the page
+  pub count-2 : (next : ℕ) (long : Bool) → shapeOf 2 next long ≡ Malformed
+  pub count-3 : (next : ℕ) (long : Bool) → dataBytes (shapeOf 3 next long) ≡ 253
+  pub count-255 : (next : ℕ) (long : Bool) → dataBytes (shapeOf 255 next long) ≡ 1
+  -- "long COUNT 3 malformed; 4 gives 508; 255 gives 257"
+  pub long-3 : shapeOf 0 3 true ≡ Malformed
+  pub long-4 : dataBytes (shapeOf 0 4 true) ≡ 508
+  pub long-255 : dataBytes (shapeOf 0 255 true) ≡ 257
+  -- "page of 2C is 3; page of 0B is 2"
+  pub page-2C : commandOf 0x2c ≡ EnableReceive 3 false
+  pub page-0B : commandOf 0x0b ≡ EnableTransmit 2
+  -- "NID 255 to 0; pointer 1,023 to 0; status 91 after reset": the hardware reset, and a write of RESET = 1
+  pub nid-255 : (g : Regs) → g .nid ≡ 255 → risenNid g .nid ≡ 0
+  pub pointer-1023 : (g : Regs) → has AUTO-INC (g .mode) ≡ true → pointer g ≡ 1023 → pointer (stepped g) ≡ 0
+  pub status-reset : hardwareReset .status ≡ 0x91
+  pub status-written : (g : Regs) (v : ℕ) → has RESET v ≡ true → configured g v .status ≡ 0x91
+  -- "ID 200 to 7 takes 64": where 200 is the highest ID on line and 7 the lowest, the lap's first entry is of ID 7, after 64 invitations
+  pub from-200-to-7 : (net : List ℕ) → Ready net → topId net (rows net) ≡ 200 → (l : List ℕ) → idsOnLine net ≡ 7 ∷ l
+      → take 1 (map hopOf (takers net 0 (answers (lapSteps net) net))) ≡ (7, 64) ∷ []
+  -- "two nodes take 258"
+  pub two-nodes : (net : List ℕ) → Ready net → nodes net ≡ 2 → invitations (answers (lapSteps net) net) ≡ 258
