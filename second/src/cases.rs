@@ -1,0 +1,169 @@
+//! The fixed cases of document 01, "Sums to prove and sums to run".
+
+use crate::model::{Network, MOST_ROWS};
+use crate::order::ORDER_MARK;
+use crate::peer::{InProcess, Peer};
+use crate::prompt::hex_text;
+
+/// Lines with the answers that document 01 gives them.
+type Script = Vec<(String, String)>;
+
+pub fn run(peer: &mut dyn Peer) -> Result<(), String> {
+    let mut both = Both {
+        there: peer,
+        here: InProcess::new(),
+    };
+    let results = [
+        ("one row refuses ALONE", both.follow(&one_row())),
+        ("60 rows load, 61 refuse", both.follow(&sixty_and_one())),
+        (
+            "a packet to one's own ID gets NOANSWER",
+            both.follow(&to_own_id()),
+        ),
+        (
+            "fault 2 on a broadcast changes nothing",
+            both.fault_on_broadcast(),
+        ),
+    ];
+    let mut failed = false;
+    for (name, result) in results {
+        println!(
+            "{name}: {}",
+            result.as_ref().err().map_or("as 01 has it", String::as_str)
+        );
+        failed |= result.is_err();
+    }
+    if failed {
+        Err("not all cases are as 01 has them".to_string())
+    } else {
+        Ok(())
+    }
+}
+
+/// An order for these IDs, all with the receiver on.
+pub fn order_line(ids: &[u8]) -> String {
+    let mut order = Vec::new();
+    for id in ids {
+        order.extend(ORDER_MARK);
+        order.extend([*id, 1]);
+        order.extend(b"NODE        ");
+    }
+    format!("load {}", hex_text(&order))
+}
+
+fn script(lines: &[(&str, &str)]) -> Script {
+    lines
+        .iter()
+        .map(|(line, answer)| (line.to_string(), answer.to_string()))
+        .collect()
+}
+
+fn loaded(ids: &[u8], answer: &str) -> Script {
+    let size = format!("size {}", Network::length_for(ids.len()));
+    script(&[(&size, "DONE"), (&order_line(ids), answer)])
+}
+
+fn one_row() -> Script {
+    let mut lines = loaded(&[7], "DONE");
+    lines.extend(script(&[
+        ("lap 1", "REFUSED 12 ALONE"),
+        ("step 0", "RECOVERED 0"),
+    ]));
+    lines
+}
+
+fn sixty_and_one() -> Script {
+    let ids: Vec<u8> = (1..=MOST_ROWS as u8 + 1).collect();
+    let mut lines = loaded(&ids[..MOST_ROWS], "DONE");
+    lines.extend(script(&[("check", "DONE")]));
+    lines.extend(loaded(&ids, "REFUSED 14 ORDER"));
+    lines.extend(script(&[
+        ("fresh 61", "REFUSED 4 VALUE"),
+        ("check", "REFUSED 1 SHAPE"),
+    ]));
+    lines
+}
+
+/// Two rows, 5 and 6; row 0, that of ID 5, has a packet of one byte waiting for this DID, and has
+/// just been passed the token: 6 invites itself, then 7 and so on to 255, 0, 1 and so on to 5.
+fn row_0_at_the_token(did: u8) -> Script {
+    let mut lines = loaded(&[5, 6], "DONE");
+    let page = Network::length_for(0) + 64 + 256;
+    lines.extend(script(&[
+        (&format!("poke {page} 55{did:02X}FF"), "DONE"),
+        (&format!("poke {} AA", page + 255), "DONE"),
+        ("write 0 1 35", "DONE"), // 23 hex: Enable Transmit from page 1
+        ("step 0", "RECOVERED 1"),
+    ]));
+    for invited in (6..=255).chain(0..=4) {
+        lines.extend(script(&[("step 0", &format!("UNANSWERED {invited}"))]));
+    }
+    lines.extend(script(&[("step 0", "PASSED 0")]));
+    lines
+}
+
+fn to_own_id() -> Script {
+    let mut lines = row_0_at_the_token(5);
+    lines.extend(script(&[
+        ("step 0", "HELD NOANSWER"),
+        ("read 0 0", "DONE 21"), // 15 hex: POR, RECON and TA, RI 0 still
+        ("peek 336 3", "DONE 5505FF"), // no packet went, so its byte 0 is as it was
+    ]));
+    lines
+}
+
+/// The two that must give the answers written down.
+struct Both<'a> {
+    there: &'a mut dyn Peer,
+    here: InProcess,
+}
+
+impl Both<'_> {
+    fn follow(&mut self, script: &Script) -> Result<(), String> {
+        for (line, expected) in script {
+            let (here, there) = self.answers(line)?;
+            for (which, answer) in [("here", here), ("there", there)] {
+                if answer != *expected {
+                    return Err(format!(
+                        "{which} `{line}` gave `{answer}` and not `{expected}`"
+                    ));
+                }
+            }
+        }
+        Ok(())
+    }
+
+    /// The same bytes come of fault 0 and of fault 2 from the same bytes.
+    fn fault_on_broadcast(&mut self) -> Result<(), String> {
+        let mut sums = Vec::new();
+        for fault in [0, 2] {
+            self.follow(&row_0_at_the_token(0))?;
+            let before = self.answers("sum")?;
+            let step = format!("step {fault}");
+            self.follow(&script(&[
+                (&step, "HELD BROADCAST"),
+                ("data 1 0", "DONE AA"),
+            ]))?;
+            sums.push([before, self.answers("sum")?]);
+        }
+        let alike =
+            |[before, after]: &[(String, String); 2]| before.0 == before.1 && after.0 == after.1;
+        if sums[0] == sums[1] && sums.iter().all(alike) {
+            Ok(())
+        } else {
+            Err(format!(
+                "sums here and there before and after the step: {sums:?}"
+            ))
+        }
+    }
+
+    fn answers(&mut self, line: &str) -> Result<(String, String), String> {
+        Ok((answer(&mut self.here, line)?, answer(self.there, line)?))
+    }
+}
+
+fn answer(peer: &mut dyn Peer, line: &str) -> Result<String, String> {
+    peer.send(format!("{line}\n").into_bytes())
+        .map_err(|error| error.to_string())?;
+    peer.receive().map_err(|error| error.to_string())
+}

@@ -1,0 +1,85 @@
+//! The second program: document 01 once more, held against the program `bench`.
+
+mod benchmark;
+mod cases;
+mod comparison;
+mod line;
+mod material;
+mod model;
+mod order;
+mod packet;
+mod peer;
+mod prompt;
+mod refusal;
+mod registers;
+mod rng;
+mod scenes;
+mod tally;
+#[cfg(test)]
+mod tests;
+
+use std::process::ExitCode;
+use std::time::Instant;
+
+use comparison::Comparison;
+use peer::{InProcess, Peer, Piped};
+use scenes::Player;
+
+const USAGE: &str = "\
+second campaign CALLS SEED -- COMMAND ARGS..   random calls, every answer and byte compared
+second self CALLS SEED                         the same against the prompt of this program
+second cases -- COMMAND ARGS..                 the fixed cases
+second bench -- COMMAND ARGS..                 how fast it is";
+
+fn main() -> ExitCode {
+    let arguments: Vec<String> = std::env::args().skip(1).collect();
+    let words: Vec<&str> = arguments.iter().map(String::as_str).collect();
+    let result = match words.as_slice() {
+        ["campaign", calls, seed, "--", _, ..] => {
+            start(&arguments[4..]).and_then(|mut peer| campaign(&mut peer, calls, seed))
+        }
+        ["self", calls, seed] => campaign(&mut InProcess::new(), calls, seed),
+        ["cases", "--", _, ..] => start(&arguments[2..]).and_then(|mut peer| cases::run(&mut peer)),
+        ["bench", "--", _, ..] => {
+            start(&arguments[2..]).and_then(|mut peer| benchmark::run(&mut peer))
+        }
+        _ => {
+            eprintln!("{USAGE}");
+            return ExitCode::from(2);
+        }
+    };
+    match result {
+        Ok(()) => ExitCode::SUCCESS,
+        Err(what) => {
+            println!("{what}");
+            ExitCode::FAILURE
+        }
+    }
+}
+
+fn start(command: &[String]) -> Result<Piped, String> {
+    Piped::start(command).map_err(|error| format!("{}: {error}", command.join(" ")))
+}
+
+fn campaign(peer: &mut dyn Peer, calls: &str, seed: &str) -> Result<(), String> {
+    let number = |text: &str| {
+        text.parse::<u64>()
+            .map_err(|error| format!("{text}: {error}"))
+    };
+    let (calls, seed) = (number(calls)?, number(seed)?);
+    let started = Instant::now();
+    let mut player = Player::new(Comparison::new(peer), seed);
+    player.play(calls)?;
+    let both = player.comparison();
+    both.tally().print();
+    println!();
+    println!(
+        "{} calls of seed {seed} alike, with as many sums, in {:.1} s",
+        both.calls(),
+        started.elapsed().as_secs_f64()
+    );
+    match both.tally().missing().as_slice() {
+        [] => Ok(()),
+        missing => Err(format!("can come and did not:\n{}", missing.join("\n"))),
+    }
+}

@@ -1,0 +1,287 @@
+//! Document 01, "Registers": the calls on one card, and what they do to the line.
+
+use crate::model::{
+    bit, Configuration, Diagnostic, Mask, Mode, Network, Phase, Receiver, Row, Transmitter, RAM,
+};
+use crate::refusal::Refusal;
+
+/// What a register number reaches, register 7 by its sub-address.
+#[derive(Clone, Copy)]
+enum Register {
+    StatusOrMask,
+    DiagnosticOrCommand,
+    PointerHigh,
+    PointerLow,
+    Data,
+    Configuration,
+    TentativeId,
+    NodeId,
+    Setup,
+}
+
+/// The twenty legal commands.
+#[derive(Clone, Copy, Debug, PartialEq, Eq)]
+pub enum Command {
+    DisableTransmitter,
+    DisableReceiver,
+    EnableTransmit { page: u8 },
+    EnableReceive { page: u8, broadcasts: bool },
+    LongPackets(bool),
+    ClearFlags { por: bool, recon: bool },
+}
+
+impl Command {
+    pub fn from_byte(byte: u8) -> Option<Command> {
+        let page = 2 * u8::from(bit(byte, 3)) + u8::from(bit(byte, 5));
+        // The low three bits say the kind; beside them each kind has free bits of its own, and
+        // all others are 0.
+        let (command, free) = match byte & 7 {
+            1 => (Command::DisableTransmitter, 0x00),
+            2 => (Command::DisableReceiver, 0x00),
+            3 => (Command::EnableTransmit { page }, 0x28),
+            4 => (
+                Command::EnableReceive {
+                    page,
+                    broadcasts: bit(byte, 7),
+                },
+                0xA8,
+            ),
+            5 => (Command::LongPackets(bit(byte, 3)), 0x08),
+            6 => (
+                Command::ClearFlags {
+                    por: bit(byte, 3),
+                    recon: bit(byte, 4),
+                },
+                0x18,
+            ),
+            _ => return None,
+        };
+        (byte & !7 & !free == 0).then_some(command)
+    }
+}
+
+impl Row {
+    fn register(&self, number: u32) -> Result<Register, Refusal> {
+        match (number, self.configuration.sub_address) {
+            (0, _) => Ok(Register::StatusOrMask),
+            (1, _) => Ok(Register::DiagnosticOrCommand),
+            (2, _) => Ok(Register::PointerHigh),
+            (3, _) => Ok(Register::PointerLow),
+            (4, _) => Ok(Register::Data),
+            (6, _) => Ok(Register::Configuration),
+            (7, 0) => Ok(Register::TentativeId),
+            (7, 1) => Ok(Register::NodeId),
+            (7, 2) => Ok(Register::Setup),
+            _ => Err(Refusal::Register),
+        }
+    }
+
+    fn read(&mut self, register: Register) -> Result<u8, Refusal> {
+        match register {
+            Register::StatusOrMask => Ok(self.status()),
+            Register::DiagnosticOrCommand => Ok(std::mem::take(&mut self.diagnostic).byte()),
+            Register::PointerHigh => {
+                let [pointer_high, _] = self.pointer.to_be_bytes();
+                Ok(Mode {
+                    staged: pointer_high,
+                    ..self.mode
+                }
+                .byte())
+            }
+            Register::PointerLow => {
+                let [_, pointer_low] = self.pointer.to_be_bytes();
+                Ok(pointer_low)
+            }
+            Register::Data if !self.mode.rddata => Err(Refusal::Direction),
+            Register::Data => Ok(*self.data_byte()),
+            Register::Configuration => Ok(self.configuration.byte()),
+            Register::TentativeId => Ok(self.tentative_id),
+            Register::NodeId => Ok(self.node_id),
+            Register::Setup => Ok(self.setup),
+        }
+    }
+
+    /// The RAM byte at the pointer, which then moves on where AUTO-INC is set.
+    fn data_byte(&mut self) -> &mut u8 {
+        let at = usize::from(self.pointer);
+        if self.mode.auto_inc {
+            self.pointer = (self.pointer + 1) % RAM as u16;
+        }
+        &mut self.ram[at]
+    }
+
+    /// A write as far as the row alone decides it. The tests of each register stand in the order
+    /// of their numbers.
+    fn write(&mut self, register: Register, value: u8) -> Result<(), Refusal> {
+        match register {
+            Register::StatusOrMask => self.mask = Mask::from_byte(value).ok_or(Refusal::Value)?,
+            Register::DiagnosticOrCommand => {
+                self.command(Command::from_byte(value).ok_or(Refusal::Value)?)?;
+            }
+            Register::PointerHigh => self.mode = Mode::from_byte(value).ok_or(Refusal::Value)?,
+            Register::PointerLow => {
+                self.pointer = u16::from_be_bytes([self.mode.staged, value]);
+            }
+            Register::Data if self.mode.rddata => return Err(Refusal::Direction),
+            Register::Data => *self.data_byte() = value,
+            Register::Configuration => {
+                self.configure(Configuration::from_byte(value).ok_or(Refusal::Value)?);
+            }
+            Register::TentativeId => self.tentative_id = value,
+            Register::NodeId if self.on_line() => return Err(Refusal::Online),
+            Register::NodeId => self.node_id = value,
+            Register::Setup if value > 7 => return Err(Refusal::Value),
+            Register::Setup => self.setup = value,
+        }
+        Ok(())
+    }
+
+    /// Every write with RESET = 1 resets, also where RESET was set before.
+    fn configure(&mut self, configuration: Configuration) {
+        self.configuration = configuration;
+        if configuration.reset {
+            self.por = true;
+            self.recon = false;
+            self.transmitter = Transmitter::Available {
+                acknowledged: false,
+            };
+            self.receiver = Receiver::Inhibited;
+            self.diagnostic = Diagnostic::default();
+            self.mask = Mask::default();
+            self.long_packets = false;
+        }
+    }
+
+    fn command(&mut self, command: Command) -> Result<(), Refusal> {
+        if !self.awake() {
+            return Err(Refusal::NotReady);
+        }
+        match command {
+            Command::DisableTransmitter => {
+                if let Transmitter::Waiting { cancel_asked, .. } = &mut self.transmitter {
+                    *cancel_asked = true;
+                }
+            }
+            Command::DisableReceiver => {
+                if let Receiver::Enabled { cancel_asked, .. } = &mut self.receiver {
+                    *cancel_asked = true;
+                }
+            }
+            Command::EnableTransmit { page } => {
+                self.may_enable(self.ta(), page)?;
+                self.transmitter = Transmitter::Waiting {
+                    page,
+                    cancel_asked: false,
+                };
+            }
+            Command::EnableReceive { page, broadcasts } => {
+                self.may_enable(self.ri(), page)?;
+                self.receiver = Receiver::Enabled {
+                    page,
+                    broadcasts,
+                    cancel_asked: false,
+                };
+            }
+            Command::LongPackets(_) if !self.ta() || !self.ri() => return Err(Refusal::Busy),
+            Command::LongPackets(long) => self.long_packets = long,
+            Command::ClearFlags { por, recon } => {
+                self.por &= !por;
+                self.recon &= !recon;
+            }
+        }
+        Ok(())
+    }
+
+    /// BUSY comes before PAGE; f = 1 is the odd page.
+    fn may_enable(&self, idle: bool, page: u8) -> Result<(), Refusal> {
+        if !idle {
+            return Err(Refusal::Busy);
+        }
+        if page % 2 == 1 && self.long_packets {
+            return Err(Refusal::Page);
+        }
+        Ok(())
+    }
+
+    fn interrupt(&self) -> bool {
+        self.por
+            || self.mask.ri && self.ri()
+            || self.mask.recon && self.recon
+            || self.mask.ta && self.ta()
+    }
+}
+
+impl Network {
+    /// The row of a number that may be any.
+    pub fn index(&self, row: u32) -> Result<usize, Refusal> {
+        usize::try_from(row)
+            .ok()
+            .filter(|row| *row < self.rows.len())
+            .ok_or(Refusal::Row)
+    }
+
+    pub fn read(&mut self, row: u32, register: u32) -> Result<u8, Refusal> {
+        let index = self.index(row)?;
+        let row = &mut self.rows[index];
+        row.read(row.register(register)?)
+    }
+
+    /// A value above 255 has an unnamed bit in every register.
+    pub fn write(&mut self, row: u32, register: u32, value: u32) -> Result<(), Refusal> {
+        let index = self.index(row)?;
+        let register = self.rows[index].register(register)?;
+        let value = u8::try_from(value).map_err(|_| Refusal::Value)?;
+        let mut after = self.rows[index].clone();
+        after.write(register, value)?;
+        if after.on_line() && self.taken_by_another(index, after.node_id) {
+            return Err(Refusal::Duplicate);
+        }
+        self.replace(index, after);
+        Ok(())
+    }
+
+    pub fn hardware_reset(&mut self, row: u32) -> Result<(), Refusal> {
+        let index = self.index(row)?;
+        self.replace(index, Row::after_hardware_reset(self.rows[index].ram));
+        Ok(())
+    }
+
+    pub fn timer(&mut self, row: u32) -> Result<(), Refusal> {
+        let index = self.index(row)?;
+        if !self.rows[index].on_line() {
+            return Err(Refusal::NotReady);
+        }
+        self.burst(index);
+        Ok(())
+    }
+
+    pub fn interrupt(&self, row: u32) -> Result<bool, Refusal> {
+        Ok(self.rows[self.index(row)?].interrupt())
+    }
+
+    /// The on-line row with this ID other than the one given.
+    pub fn other_on_line(&self, than: usize, id: u8) -> Option<usize> {
+        (0..self.rows.len())
+            .find(|row| *row != than && self.rows[*row].on_line() && self.rows[*row].node_id == id)
+    }
+
+    fn taken_by_another(&self, row: usize, id: u8) -> bool {
+        self.other_on_line(row, id).is_some()
+    }
+
+    /// Puts a changed row in its place: one that comes on line bursts, and a holder that goes off
+    /// line leaves the phase LOST.
+    fn replace(&mut self, index: usize, after: Row) {
+        let before = std::mem::replace(&mut self.rows[index], after);
+        match (before.on_line(), self.rows[index].on_line()) {
+            (false, true) => self.burst(index),
+            (true, false) if self.phase.holder() == Some(index) => self.phase = Phase::Lost,
+            _ => {}
+        }
+    }
+
+    fn burst(&mut self, index: usize) {
+        self.rows[index].diagnostic.myrecon = true;
+        self.phase = Phase::Lost;
+    }
+}
