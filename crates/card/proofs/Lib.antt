@@ -22,3 +22,4 @@ pub mod PacketLaws
 pub mod Rams
 pub mod Touched
 pub mod CardSums
+pub mod Refused

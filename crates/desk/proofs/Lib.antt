@@ -30,3 +30,4 @@ pub mod TakerRows
 pub mod Waits
 pub mod Demanded
 pub mod Summed
+pub mod Promised

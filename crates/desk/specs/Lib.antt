@@ -3,3 +3,4 @@ pub mod Load
 pub mod Lap
 pub mod Demand
 pub mod Sums
+pub mod Promises

@@ -32,3 +32,4 @@ pub mod StepIs
 pub mod View
 pub mod SameNodes
 pub mod Calm
+pub mod Refused

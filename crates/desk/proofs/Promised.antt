@@ -1,0 +1,69 @@
+-- Refused calls change nothing, and no second outcome fits a statement.
+-- Assumes nothing.
+use mathlib.Core.Path.{_≡_, refl, sym, _∙_}
+use mathlib.Core.List.{List, []}
+use Prim.Native.Nat.{ℕ}
+use lib.Dec.{eqb}
+use lib.ListN.{length, drop}
+use borrow.Author.Tests.{ne-eqb}
+use Rattle.line.proofs.Refused.{read-refused, write-refused, reset-refused, timer-refused, interrupt-refused, data-refused, fresh-refused, step-refused}
+use Rattle.desk.specs.declared.laps.Taker.{Taker}
+use Rattle.desk.specs.Load.{loadNumber, netAfterLoad}
+use Rattle.desk.specs.Lap.{lapNumber, lapped, netAfterLap, lapTakers, listAfterLap}
+use Rattle.desk.specs.Promises.{Refused, RefusalsChangeNothing, Only, Only2, OneOutcome}
+
+load-refused : (order net : List ℕ) → Refused (loadNumber order net) → netAfterLoad order net ≡ net
+unfolding netAfterLoad
+load-refused order net n = rw (ne-eqb _ _ n)
+
+walk-refused : (net : List ℕ) (room : ℕ) → Refused (lapNumber net room) → (lapped net room .total ≡ 0) × ((netAfterLap net room ≡ net) × (lapTakers net room ≡ []))
+unfolding lapped netAfterLap lapTakers
+walk-refused net room n = let f = ne-eqb (lapNumber net room) 0 n in (rw f, (rw f, rw f))
+
+lap-refused : (net : List ℕ) (list : List Taker) → Refused (lapNumber net (length list)) → listAfterLap net list ≡ list
+unfolding listAfterLap
+lap-refused net list n = rw (walk-refused net (length list) n .1 .1)
+
+pub refusals-change-nothing : RefusalsChangeNothing
+refusals-change-nothing = record {
+  read = read-refused;
+  write = write-refused;
+  reset = reset-refused;
+  timer = timer-refused;
+  interrupt = interrupt-refused;
+  page-data = data-refused;
+  fresh = fresh-refused;
+  step-of = step-refused;
+  load = load-refused;
+  walk = walk-refused;
+  lap = lap-refused;
+}
+
+-- ---- no second outcome fits
+only : {A : Type 0} (x : A) → Only x
+only x r r′ e e′ = e ∙ sym e′
+
+only2 : {A B : Type 0} (x : A) (y : B) → Only2 x y
+only2 x y r r′ a a′ e e′ = (e .0 ∙ sym (e′ .0), e .1 ∙ sym (e′ .1))
+
+pub one-outcome : OneOutcome
+one-outcome = record {
+  shape-of = λ net. only _;
+  fresh = λ net n. only2 _ _;
+  read = λ net k g. only2 _ _;
+  write = λ net k g v. only2 _ _;
+  reset = λ net k. only2 _ _;
+  timer = λ net k. only2 _ _;
+  interrupt = λ net k. only _;
+  page-data = λ net k p. only _;
+  data-number = λ net k p. only _;
+  step-of = λ net fault. only2 _ _;
+  records-of = λ order. only _;
+  order-fits = λ order. only _;
+  name-at = λ order k. only _;
+  load = λ order net. only2 _ _;
+  walk = λ net room. only2 _ _;
+  walk-list = λ net room. only _;
+  lap = λ net list. only2 _ _;
+  lap-list = λ net list. only _;
+}

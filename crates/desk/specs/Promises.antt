@@ -1,0 +1,59 @@
+-- What holds of every public call.
+-- Assumes nothing.
+use mathlib.Core.Path.{_≡_}
+use mathlib.Core.Bool.{false}
+use mathlib.Core.List.{List, []}
+use Prim.Native.Nat.{ℕ}
+use lib.ListN.{length}
+use Rattle.line.specs.Network.{shape}
+use Rattle.line.specs.Calls.{placeNumber, netReading, netAfterRead, netWriteNumber, netAfterWrite, netAfterReset, timerNumber, netAfterTimer, netInterrupt, netData, netDataNumber, freshNumber, netAfterFresh}
+use Rattle.line.specs.Step.{step, answerNumber, answerValue}
+use Rattle.desk.specs.declared.laps.Taker.{Taker}
+use Rattle.desk.specs.Order.{records, orderFits, nameAt}
+use Rattle.desk.specs.Load.{loadNumber, netAfterLoad}
+use Rattle.desk.specs.Lap.{lapNumber, lapped, netAfterLap, lapTakers, listAfterLap}
+
+-- ---- "A refusal returns 0, or length 0, beside its number, and no lent byte or entry changes": the number is a refusal's
+abbrev pub Refused : ℕ → Type 0
+Refused n = n ≡ 0 → ⊥
+
+pub record RefusalsChangeNothing : Type 0 where
+  pub read : (net : List ℕ) (k g : ℕ) → Refused (netReading net k g .number) → (netAfterRead net k g ≡ net) × (netReading net k g .value ≡ 0)
+  pub write : (net : List ℕ) (k g v : ℕ) → Refused (netWriteNumber net k g v) → netAfterWrite net k g v ≡ net
+  pub reset : (net : List ℕ) (k : ℕ) → Refused (placeNumber net k) → netAfterReset net k ≡ net
+  pub timer : (net : List ℕ) (k : ℕ) → Refused (timerNumber net k) → netAfterTimer net k ≡ net
+  pub interrupt : (net : List ℕ) (k : ℕ) → Refused (netInterrupt net k .number) → netInterrupt net k .active ≡ false
+  pub page-data : (net : List ℕ) (k p : ℕ) → Refused (netDataNumber net k p) → netData net k p ≡ []
+  pub fresh : (net : List ℕ) (n : ℕ) → Refused (freshNumber net n) → netAfterFresh net n ≡ net
+  pub step-of : (net : List ℕ) (fault : ℕ) → Refused (answerNumber (step net fault .answer)) → (step net fault .after ≡ net) × (answerValue (step net fault .answer) ≡ 0)
+  pub load : (order net : List ℕ) → Refused (loadNumber order net) → netAfterLoad order net ≡ net
+  pub walk : (net : List ℕ) (room : ℕ) → Refused (lapNumber net room) → (lapped net room .total ≡ 0) × ((netAfterLap net room ≡ net) × (lapTakers net room ≡ []))
+  pub lap : (net : List ℕ) (list : List Taker) → Refused (lapNumber net (length list)) → listAfterLap net list ≡ list
+
+-- ---- "no second outcome fits": a statement that gives an answer by one equation, and what is left in the lent bytes by another
+abbrev pub Only : {A : Type 0} → A → Type 0
+Only {A} x = (r r′ : A) → r ≡ x → r′ ≡ x → r ≡ r′
+
+abbrev pub Only2 : {A B : Type 0} → A → B → Type 0
+Only2 {A} {B} x y = (r r′ : A) (a a′ : B) → (r ≡ x) × (a ≡ y) → (r′ ≡ x) × (a′ ≡ y) → (r ≡ r′) × (a ≡ a′)
+
+-- for each public function, what its `ensures` say; of `laps::walk` the entries past n are not fixed
+pub record OneOutcome : Type 0 where
+  pub shape-of : (net : List ℕ) → Only (shape net)
+  pub fresh : (net : List ℕ) (n : ℕ) → Only2 (freshNumber net n) (netAfterFresh net n)
+  pub read : (net : List ℕ) (k g : ℕ) → Only2 (netReading net k g) (netAfterRead net k g)
+  pub write : (net : List ℕ) (k g v : ℕ) → Only2 (netWriteNumber net k g v) (netAfterWrite net k g v)
+  pub reset : (net : List ℕ) (k : ℕ) → Only2 (placeNumber net k) (netAfterReset net k)
+  pub timer : (net : List ℕ) (k : ℕ) → Only2 (timerNumber net k) (netAfterTimer net k)
+  pub interrupt : (net : List ℕ) (k : ℕ) → Only (netInterrupt net k)
+  pub page-data : (net : List ℕ) (k p : ℕ) → Only (netData net k p)
+  pub data-number : (net : List ℕ) (k p : ℕ) → Only (netDataNumber net k p)
+  pub step-of : (net : List ℕ) (fault : ℕ) → Only2 (step net fault .answer) (step net fault .after)
+  pub records-of : (order : List ℕ) → Only (records order)
+  pub order-fits : (order : List ℕ) → Only (orderFits order)
+  pub name-at : (order : List ℕ) (k : ℕ) → Only (nameAt order k)
+  pub load : (order net : List ℕ) → Only2 (loadNumber order net) (netAfterLoad order net)
+  pub walk : (net : List ℕ) (room : ℕ) → Only2 (lapped net room) (netAfterLap net room)
+  pub walk-list : (net : List ℕ) (room : ℕ) → Only (lapTakers net room)
+  pub lap : (net : List ℕ) (list : List Taker) → Only2 (lapped net (length list)) (netAfterLap net (length list))
+  pub lap-list : (net : List ℕ) (list : List Taker) → Only (listAfterLap net list)
