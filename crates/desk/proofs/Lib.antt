@@ -31,3 +31,4 @@ pub mod Waits
 pub mod Demanded
 pub mod Summed
 pub mod Promised
+pub mod LapCall

@@ -3,15 +3,16 @@
 use mathlib.Core.Path.{_≡_}
 use mathlib.Core.Bool.{false}
 use mathlib.Core.List.{List, []}
-use Prim.Native.Nat.{ℕ}
-use lib.ListN.{length}
+use Prim.Native.Nat.{ℕ, _+_, _<_}
+use lib.ListN.{length, getD}
 use Rattle.line.specs.Network.{shape}
 use Rattle.line.specs.Calls.{placeNumber, netReading, netAfterRead, netWriteNumber, netAfterWrite, netAfterReset, timerNumber, netAfterTimer, netInterrupt, netData, netDataNumber, freshNumber, netAfterFresh}
 use Rattle.line.specs.Step.{step, answerNumber, answerValue}
 use Rattle.desk.specs.declared.laps.Taker.{Taker}
 use Rattle.desk.specs.Order.{records, orderFits, nameAt}
 use Rattle.desk.specs.Load.{loadNumber, netAfterLoad}
-use Rattle.desk.specs.Lap.{lapNumber, lapped, netAfterLap, lapTakers, listAfterLap}
+use Rattle.desk.specs.Lap.{nodes, answers, takers, lapSteps, lapNumber, lapped, netAfterLap, lapTakers, listAfterLap}
+use Rattle.desk.specs.Demand.{LapOf}
 
 -- ---- "A refusal returns 0, or length 0, beside its number, and no lent byte or entry changes": the number is a refusal's
 abbrev pub Refused : ℕ → Type 0
@@ -57,3 +58,10 @@ pub record OneOutcome : Type 0 where
   pub walk-list : (net : List ℕ) (room : ℕ) → Only (lapTakers net room)
   pub lap : (net : List ℕ) (list : List Taker) → Only2 (lapped net (length list)) (netAfterLap net (length list))
   pub lap-list : (net : List ℕ) (list : List Taker) → Only (listAfterLap net list)
+
+-- ---- the lap call is the lap: where it is not refused, its total, its entries and the network that it leaves are those of a lap, whose steps iterate the step
+abbrev pub LapCallIsTheLap : Type 0
+LapCallIsTheLap =
+    (net : List ℕ) → ((i : ℕ) → getD net i 0 < 256) → (room : ℕ) → lapNumber net room ≡ 0
+    → LapOf net (answers (lapSteps net) net) (lapped net room .total) (netAfterLap net room)
+    × (lapped net room .total ≡ 256 + nodes net) × (lapTakers net room ≡ takers net 0 (answers (lapSteps net) net))
