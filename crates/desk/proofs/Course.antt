@@ -61,6 +61,9 @@ passed-below net s b TokenLost e p = absurd (false≢true p)
 passed-below net s b (Held o) e p = absurd (false≢true p)
 
 -- each taker is a row of both
+same-entry : (net now : List ℕ) → Alike net now → (r c : ℕ) → r < rows net → entry net r c ≡ entry now r c
+same-entry net now a r c l = rw (a .id r l)
+
 same-takers : (net now : List ℕ) → Alike net now → (k : ℕ) → takers net 0 (answers k now) ≡ takers now 0 (answers k now)
 same-takers net now a zero = rw answers-none (takers-none net 0 ∙ sym (takers-none now 0))
 same-takers net now a (suc k) =
@@ -69,7 +72,7 @@ same-takers net now a (suc k) =
     let c = since 0 (answers k now) in
     let ids : passed x ≡ true → entry net (answerValue x) c ≡ entry now (answerValue x) c
     = λ p. let l = passed-below (after k now) (w .fits) (w .rams) x refl p in
-    ap (λ (i : ℕ). record { id = i; row = answerValue x; invitations = suc c }) (sym (a .id (answerValue x) (omega (arith, w .count, a .count)))) in
+    same-entry net now a (answerValue x) c (omega (arith, w .count, a .count)) in
     rw (answers-more, takers-more, takers-more, same-takers net now a k)
     (pick-of (λ (t : List Taker). takers now 0 (answers k now) ++ pick (passed x) (entry net (answerValue x) c ∷ []) [] ≡ takers now 0 (answers k now) ++ t) (passed x)
     (λ p. rw p (ap (λ (t : Taker). takers now 0 (answers k now) ++ (t ∷ [])) (ids p))) (λ p. rw p))

@@ -65,6 +65,7 @@ cast-t22 c =
       arith,
       turn-part _ _ _ _ _ _ _ _ _ (o .step-on2 .ensures) _ (p .passed .ensures) _ (i .invitation .ensures) _ _ (refl, refl) _ (c .before .before .value2 .ensures)
           _ (l .inv) (t .loop-test .taken) (c .before .before .before .if2 .taken) .1,
+      going-small _ _ _ _ _ _ _ _ (l .inv) (t .loop-test .taken),
     )
 
 mul-list : tie.Need-mul-list Inv-loop μ-loop
