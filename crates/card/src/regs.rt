@@ -9,15 +9,15 @@ use crate::commands::decode;
 use crate::numbers::Cases;
 use crate::numbers::choose;
 
-pub(crate) const RI: u8 = 1 << 7;
+pub const RI: u8 = 1 << 7;
 
-pub(crate) const POR: u8 = 1 << 4;
+pub const POR: u8 = 1 << 4;
 
-pub(crate) const RECON: u8 = 1 << 2;
+pub const RECON: u8 = 1 << 2;
 
-pub(crate) const TMA: u8 = 1 << 1;
+pub const TMA: u8 = 1 << 1;
 
-pub(crate) const TA: u8 = 1;
+pub const TA: u8 = 1;
 
 pub(crate) const MYRECON: u8 = 1 << 7;
 
@@ -43,7 +43,7 @@ const AUTO_INC: u8 = 1 << 6;
 
 pub(crate) const CANCEL: u8 = 1 << 7;
 
-pub(crate) const BROADCASTS: u8 = 1 << 6;
+pub const BROADCASTS: u8 = 1 << 6;
 
 const LOW2: u8 = 3;
 

@@ -1,4 +1,6 @@
 // Text on standard output, for the programs. Bytes are two digits in hex; other numbers are decimal.
+pub mod gather;
+
 use libc::STDOUT_FILENO;
 
 const DIGITS: [u8; 16] = *b"0123456789ABCDEF";

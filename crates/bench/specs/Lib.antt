@@ -1,0 +1,5 @@
+pub mod Input
+pub mod Calls
+pub mod Sums
+pub mod Requests
+pub mod Turns

@@ -1,0 +1,101 @@
+// The calls that the line and the desk do not have as they are.
+ghost use mathlib.Core.Path.{_≡_};
+ghost use Prim.Native.Nat.{_≤_};
+ghost use lib.ListN.{length};
+ghost use Rattle.words.specs.Hex.{unhex};
+ghost use Rattle.line.specs.Network.{rowLimit};
+ghost use Rattle.desk.specs.Load.{loadNumber, netAfterLoad};
+ghost use Rattle.desk.specs.Lap.{netAfterLap};
+ghost use Rattle.bench.specs.Calls.{inside, poked, wideNumber, valueNumber, netAfterValue};
+use crate::answers::refused;
+use desk::laps::Taker;
+use line::network::ROWS;
+use line::network::regs_at;
+use print::gather::ROOM;
+use print::gather::end;
+use print::gather::number;
+use print::gather::text;
+
+// Bytes are stored, where they all stand inside the lent ones; else nothing is.
+pub fn poke(net: &mut [u8], at: usize, digits: &[u8]) -> bool
+    ensures done { λ r. ⌜ r ≡ inside (now (net .entry)) at (length (unhex (now (digits .entry)))) ⌝ }
+    ensures bytes { λ _. ⌜ now (net .exit) ≡ poked (now (net .entry)) at (unhex (now (digits .entry))) ⌝ }
+{
+    let n = digits.len() / 2;
+    if net.len() < at {
+        return false;
+    }
+    if net.len() - at < n {
+        return false;
+    }
+    words::hex::unhex(digits, &mut net[at..at + n]);
+    true
+}
+
+// The network is made anew from the order that the digits spell.
+pub fn load(net: &mut [u8], digits: &[u8]) -> u8
+    requires { ⌜ length (now digits) ≤ 8192 ⌝ }
+    ensures number { λ r. ⌜ r ≡ loadNumber (unhex (now (digits .entry))) (now (net .entry)) ⌝ }
+    ensures bytes { λ _. ⌜ now (net .exit) ≡ netAfterLoad (unhex (now (digits .entry))) (now (net .entry)) ⌝ }
+{
+    let n = digits.len() / 2;
+    let mut order = io::buffer();
+    words::hex::unhex(digits, &mut order[0..n]);
+    desk::loading::load(&order[0..n], net)
+}
+
+// A value above 255 has a bit that no register names: 4, VALUE, unless SHAPE, ROW or REGISTER is the smaller number.
+// SHAPE and ROW are those of any call that changes nothing; a register is there for a write exactly if it is for a read.
+fn wide_value(net: &[u8], row: usize, register: usize) -> u8
+    ensures { λ r. ⌜ r ≡ wideNumber (now (net .entry)) row register ⌝ }
+{
+    let number = line::calls::interrupt(net, row).number;
+    if number != 0 {
+        return number;
+    }
+    let mut cases = regs_at(net, row).read_cases(register);
+    cases.value = true;
+    cases.number()
+}
+
+// A register of a row is written.
+pub fn write(net: &mut [u8], row: usize, register: usize, value: usize) -> u8
+    ensures number { λ r. ⌜ r ≡ valueNumber (now (net .entry)) row register value ⌝ }
+    ensures bytes { λ _. ⌜ now (net .exit) ≡ netAfterValue (now (net .entry)) row register value ⌝ }
+{
+    if 255 < value {
+        return wide_value(net, row, register);
+    }
+    line::calls::write(net, row, register, value as u8)
+}
+
+// The ID, the row and the invitations of each of the first `count` takers.
+fn takers(out: &mut [u8; ROOM], n: usize, list: [Taker; ROWS], count: usize) -> usize
+    requires { ⌜ count ≤ rowLimit ⌝ }
+{
+    let mut n = n;
+    for i in 0..count {
+        let taker = list[i];
+        n = number(out, n, taker.id as usize);
+        n = number(out, n, taker.row as usize);
+        n = number(out, n, taker.invitations as usize);
+    }
+    n
+}
+
+// DONE and the total, and the takers.
+pub fn lap(out: &mut [u8; ROOM], net: &mut [u8], room: usize)
+    ensures { λ _. ⌜ now (net .exit) ≡ netAfterLap (now (net .entry)) room ⌝ }
+{
+    let walked = desk::laps::walk(net, room);
+    let lapped = walked.lapped;
+    if lapped.number != 0 {
+        refused(out, lapped.number);
+        return;
+    }
+    let n = text(out, 0, b"DONE");
+    let n = number(out, n, lapped.total as usize);
+    let list = walked.list;
+    let n = takers(out, n, list, walked.n);
+    end(out, n);
+}

@@ -1,0 +1,51 @@
+// The bench at a prompt (document 01): a line of standard input is a call, and each is answered by a line at once.
+mod answers;
+mod calls;
+mod help;
+mod input;
+mod requests;
+mod show;
+mod sums;
+mod turns;
+
+ghost use mathlib.Core.Path.{_≡_};
+ghost use Prim.Native.Nat.{_≤_};
+ghost use lib.ListN.{length};
+ghost use Rattle.bench.specs.Input.{Held};
+use input::Input;
+use input::LINE;
+use print::gather::ROOM;
+use turns::NET;
+
+// The line that was taken is answered, with the first `size` bytes lent. It hands back the current length.
+fn answered(net: &mut [u8], size: usize, lines: &[u8], input: Input, out: &mut [u8; ROOM]) -> usize
+    requires { ⌜ (size ≤ 66400) × (length (now net) ≡ 66400) × (length (now lines) ≡ 8192) ⌝ }
+    requires { ⌜ Held input ⌝ }
+    ensures { λ r. ⌜ r ≤ 66400 ⌝ }
+{
+    let from = input.from;
+    let end = input.end;
+    turns::turn(net, size, &lines[from..end], input.long, out)
+}
+
+fn run(net: &mut [u8; NET], lines: &mut [u8; LINE], out: &mut [u8; ROOM]) {
+    let mut size = 0;
+    let mut input = Input::none();
+    // A proved loop has to end, and nothing says that the input does: no run uses up this count.
+    let mut turns = u64::MAX;
+    while 0 < turns {
+        input = input::next(lines, input);
+        if input.over {
+            return;
+        }
+        size = answered(net, size, lines, input, out);
+        turns -= 1;
+    }
+}
+
+fn main() {
+    let mut net = [0u8; NET];
+    let mut lines = [0u8; LINE];
+    let mut out = [0u8; ROOM];
+    run(&mut net, &mut lines, &mut out);
+}

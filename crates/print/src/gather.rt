@@ -1,0 +1,90 @@
+// Text gathered in a buffer, and written where the buffer is full or the text ends. Each call hands back how many
+// bytes are gathered.
+use libc::STDOUT_FILENO;
+
+pub const ROOM: usize = 4096;
+
+const DIGITS: [u8; 16] = *b"0123456789ABCDEF";
+
+pub fn put(out: &mut [u8; ROOM], n: usize, b: u8) -> usize {
+    if n < ROOM {
+        out[n] = b;
+        return n + 1;
+    }
+    io::write_all(STDOUT_FILENO, out);
+    out[0] = b;
+    1
+}
+
+pub fn text(out: &mut [u8; ROOM], n: usize, s: &[u8]) -> usize {
+    let mut to = n;
+    for i in 0..s.len() {
+        to = put(out, to, s[i]);
+    }
+    to
+}
+
+pub fn decimal(out: &mut [u8; ROOM], n: usize, number: usize) -> usize {
+    let mut digits = [0u8; 20];
+    let k = io::decimal(number as u64, &mut digits);
+    text(out, n, &digits[..k])
+}
+
+// A number after a space.
+pub fn number(out: &mut [u8; ROOM], n: usize, number: usize) -> usize {
+    let n = put(out, n, b' ');
+    decimal(out, n, number)
+}
+
+// A byte as two digits in hex.
+pub fn byte(out: &mut [u8; ROOM], n: usize, b: u8) -> usize {
+    let n = put(out, n, DIGITS[(b / 16) as usize]);
+    put(out, n, DIGITS[(b % 16) as usize])
+}
+
+pub fn bytes(out: &mut [u8; ROOM], n: usize, s: &[u8]) -> usize {
+    let mut to = n;
+    for i in 0..s.len() {
+        to = byte(out, to, s[i]);
+    }
+    to
+}
+
+// A number as sixteen digits in hex.
+pub fn sixteen(out: &mut [u8; ROOM], n: usize, number: u64) -> usize {
+    let mut to = n;
+    let mut left: u64 = 8;
+    while 0 < left {
+        left -= 1;
+        to = byte(out, to, ((number >> (8 * left)) % 256) as u8);
+    }
+    to
+}
+
+// The first n bytes are written.
+fn write(s: &[u8], n: usize) {
+    if n <= s.len() {
+        io::write_all(STDOUT_FILENO, &s[0..n]);
+    }
+}
+
+// The line ends, and what is gathered is written.
+pub fn end(out: &mut [u8; ROOM], n: usize) {
+    let n = put(out, n, b'\n');
+    write(out, n);
+}
+
+// A number at the right of a column of four.
+pub fn column(out: &mut [u8; ROOM], n: usize, number: usize) -> usize {
+    let mut to = n;
+    if number < 1000 {
+        to = put(out, to, b' ');
+    }
+    if number < 100 {
+        to = put(out, to, b' ');
+    }
+    if number < 10 {
+        to = put(out, to, b' ');
+    }
+    decimal(out, to, number)
+}

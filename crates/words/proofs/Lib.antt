@@ -1,0 +1,4 @@
+pub mod Bools
+pub mod Lines
+pub mod Digits
+pub mod Pairs
