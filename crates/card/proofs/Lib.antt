@@ -23,3 +23,4 @@ pub mod Rams
 pub mod Touched
 pub mod CardSums
 pub mod Refused
+pub mod Bystanders

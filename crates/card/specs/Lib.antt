@@ -10,3 +10,4 @@ pub mod Refusals
 pub mod Access
 pub mod Packets
 pub mod Events
+pub mod Bystander

@@ -18,7 +18,7 @@ use Rattle.line.specs.Network.{rows, shape}
 use Rattle.line.specs.Calls.{netAfterWrite, freshNumber, netAfterFresh, freshNet}
 use Rattle.line.proofs.Fresh.{fresh-refused, fresh-net, header-fresh}
 use Rattle.line.proofs.CallsKeep.{write-keeps, fresh-keeps}
-use Rattle.line.proofs.Beside.{write-beside}
+use Rattle.line.proofs.Beside.{beside-count, write-beside}
 use Rattle.desk.specs.Order.{records, recordAt, idAt, flagsOf, RECEIVE, LONG, orderFits}
 use Rattle.desk.specs.Load.{set19, setId, setLong, setReceive, loadedRow, loadedRows, loadNumber, netAfterLoad}
 use Rattle.desk.proofs.OrderLaws.{order-records}
@@ -45,7 +45,7 @@ module _ (net : List ℕ) (k : ℕ) (p : (shape net ≡ true) × (k < rows net))
   ready-write : (a : List ℕ) → Ready net a → (r v : ℕ) → Ready net (netAfterWrite a k r v)
   ready-write a h r v =
       let b = write-beside a (h .shaped) k (omega (arith, h .count, p .1)) r v in
-      record { shaped = write-keeps a (h .shaped) k r v; count = b .count ∙ h .count; long = b .long ∙ h .long }
+      record { shaped = write-keeps a (h .shaped) k r v; count = beside-count b ∙ h .count; long = b .long ∙ h .long }
 
   ready-pick : (b : Bool) (a : List ℕ) → Ready net a → (r v : ℕ) → Ready net (pick b (netAfterWrite a k r v) a)
   ready-pick true a h r v = ready-write a h r v

@@ -1,4 +1,4 @@
--- Refused calls change nothing, and no second outcome fits a statement.
+-- Refused calls change nothing, no call changes another row, and no second outcome fits a statement.
 -- Assumes nothing.
 use mathlib.Core.Path.{_≡_, refl, sym, _∙_}
 use mathlib.Core.List.{List, []}
@@ -7,10 +7,13 @@ use lib.Dec.{eqb}
 use lib.ListN.{length, drop}
 use borrow.Author.Tests.{ne-eqb}
 use Rattle.line.proofs.Refused.{read-refused, write-refused, reset-refused, timer-refused, interrupt-refused, data-refused, fresh-refused, step-refused}
+use Rattle.line.proofs.Alike.{bytes-rams}
+use Rattle.line.proofs.Others.{read-only, write-only, reset-only, timer-only}
+use Rattle.line.proofs.Bystanding.{bystands}
 use Rattle.desk.specs.declared.laps.Taker.{Taker}
 use Rattle.desk.specs.Load.{loadNumber, netAfterLoad}
 use Rattle.desk.specs.Lap.{lapNumber, lapped, netAfterLap, lapTakers, listAfterLap}
-use Rattle.desk.specs.Promises.{Refused, RefusalsChangeNothing, Only, Only2, OneOutcome}
+use Rattle.desk.specs.Promises.{Refused, RefusalsChangeNothing, NoOtherRow, Only, Only2, OneOutcome}
 
 load-refused : (order net : List ℕ) → Refused (loadNumber order net) → netAfterLoad order net ≡ net
 unfolding netAfterLoad
@@ -37,6 +40,15 @@ refusals-change-nothing = record {
   load = load-refused;
   walk = walk-refused;
   lap = lap-refused;
+}
+
+pub no-other-row : NoOtherRow
+no-other-row = record {
+  read = read-only;
+  write = write-only;
+  reset = reset-only;
+  timer = timer-only;
+  step-of = λ net b s. bystands net s (bytes-rams net s b);
 }
 
 -- ---- no second outcome fits

@@ -1,11 +1,13 @@
 -- What holds of every public call.
 -- Assumes nothing.
 use mathlib.Core.Path.{_≡_}
-use mathlib.Core.Bool.{false}
+use mathlib.Core.Bool.{true, false}
 use mathlib.Core.List.{List, []}
 use Prim.Native.Nat.{ℕ, _+_, _<_}
 use lib.ListN.{length, getD}
-use Rattle.line.specs.Network.{shape}
+use Rattle.card.specs.Events.{receiving}
+use Rattle.card.specs.Bystander.{Bystander}
+use Rattle.line.specs.Network.{rows, phase, holder, TAKEN, rowAt, regsAt, shape, OnlyRow}
 use Rattle.line.specs.Calls.{placeNumber, netReading, netAfterRead, netWriteNumber, netAfterWrite, netAfterReset, timerNumber, netAfterTimer, netInterrupt, netData, netDataNumber, freshNumber, netAfterFresh}
 use Rattle.line.specs.Step.{step, answerNumber, answerValue}
 use Rattle.desk.specs.declared.laps.Taker.{Taker}
@@ -30,6 +32,16 @@ pub record RefusalsChangeNothing : Type 0 where
   pub load : (order net : List ℕ) → Refused (loadNumber order net) → netAfterLoad order net ≡ net
   pub walk : (net : List ℕ) (room : ℕ) → Refused (lapNumber net room) → (lapped net room .total ≡ 0) × ((netAfterLap net room ≡ net) × (lapTakers net room ≡ []))
   pub lap : (net : List ℕ) (list : List Taker) → Refused (lapNumber net (length list)) → listAfterLap net list ≡ list
+
+-- ---- "no other byte moves": a call that names a row changes, but for phase and holder, that row alone; and a step changes of a row that is not the
+-- holder in TAKEN, and stores no packet (its RI stays), the status, the diagnostic status and the NID alone
+pub record NoOtherRow : Type 0 where
+  pub read : (net : List ℕ) (k g : ℕ) → OnlyRow net (netAfterRead net k g) k
+  pub write : (net : List ℕ) (k g v : ℕ) → OnlyRow net (netAfterWrite net k g v) k
+  pub reset : (net : List ℕ) (k : ℕ) → OnlyRow net (netAfterReset net k) k
+  pub timer : (net : List ℕ) (k : ℕ) → OnlyRow net (netAfterTimer net k) k
+  pub step-of : (net : List ℕ) → ((i : ℕ) → getD net i 0 < 256) → shape net ≡ true → (fault j : ℕ) → j < rows net → (phase net ≡ TAKEN → j ≡ holder net → ⊥)
+      → receiving (regsAt (step net fault .after) j) ≡ receiving (regsAt net j) → Bystander (rowAt net j) (rowAt (step net fault .after) j)
 
 -- ---- "no second outcome fits": a statement that gives an answer by one equation, and what is left in the lent bytes by another
 abbrev pub Only : {A : Type 0} → A → Type 0

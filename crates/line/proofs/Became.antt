@@ -57,7 +57,7 @@ module _ {R : List ℕ → List ℕ → Type 0} {net new : List ℕ} (c : Became
   became-map : {S : List ℕ → List ℕ → Type 0} → ((r s : List ℕ) → R r s → S r s) → Became S net new
   became-map f = record { long = c .long; header = c .header; row = λ k l. f (rowAt net k) (rowAt new k) (c .row k l) }
 
-  became-then : {last : List ℕ} → ((r s t : List ℕ) → R r s → R s t → R r t) → Became R new last → Became R net last
+  pub became-then : {last : List ℕ} → ((r s t : List ℕ) → R r s → R s t → R r t) → Became R new last → Became R net last
   became-then after d = record {
     long = d .long ∙ c .long;
     header = λ x l. d .header x l ∙ c .header x l;

@@ -33,3 +33,6 @@ pub mod View
 pub mod SameNodes
 pub mod Calm
 pub mod Refused
+pub mod Others
+pub mod Watches
+pub mod Bystanding

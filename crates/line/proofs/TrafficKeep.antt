@@ -48,7 +48,7 @@ module _ (k : Packet) (full : 512 ≤ length (k .bytes)) (count : dataAt (k .sha
             (row-still m lm wm (received (regsOf m)) (stays-received (regsOf m) (fit-rules (regsOf m) (well-fit m wm)))),
       )
 
-  carried-still : (h to : ℕ) (broadcast : Bool) (j : ℕ) (r : List ℕ) → length r ≡ rowBytes → wellFormed r ≡ true
+  pub carried-still : (h to : ℕ) (broadcast : Bool) (j : ℕ) (r : List ℕ) → length r ≡ rowBytes → wellFormed r ≡ true
       → (length (carriedRow h to broadcast k j r) ≡ rowBytes) × Still r (carriedRow h to broadcast k j r)
   carried-still h to broadcast j r l w =
       let t = takes h to broadcast j (regsOf r) in

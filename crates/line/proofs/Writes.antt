@@ -27,7 +27,7 @@ use Rattle.line.proofs.Shapes.{shape-within, shape-row-length}
 use Rattle.line.proofs.Placed.{row-placed}
 use Rattle.line.proofs.RowsKeep.{regs-write}
 use Rattle.line.proofs.CallsKeep.{write-keeps}
-use Rattle.line.proofs.Beside.{write-beside}
+use Rattle.line.proofs.Beside.{beside-count, write-beside}
 
 -- ---- a row k that is off line, in LOST: what the network `new` has in its place, and that all else is the same
 pub record Written (net new : List ℕ) (k : ℕ) (g : Regs) : Type 0 where
@@ -74,7 +74,7 @@ module _ (old net : List ℕ) (k : ℕ) (g : Regs) (w : Written old net k g) (l 
       let b = write-beside net (w .shaped) k low r v in record {
         shaped = write-keeps net (w .shaped) k r v;
         lost = b .lost (w .lost);
-        count = b .count ∙ w .count;
+        count = beside-count b ∙ w .count;
         regs = e;
         others = λ j lj n. b .others j n (shape-within net (w .shaped) j (omega (arith, w .count))) ∙ w .others j lj n;
       }

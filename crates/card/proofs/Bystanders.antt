@@ -1,0 +1,93 @@
+-- A card that a message or a recovery reaches is a bystander: only its status, its diagnostic status and its NID may change.
+-- Assumes nothing.
+use mathlib.Core.Path.{_≡_, refl, _∙_}
+use mathlib.Core.Bool.{Bool}
+use mathlib.Core.List.{List}
+use Prim.Native.Nat.{ℕ, _≤_}
+use lib.ListN.{length}
+use Rattle.card.specs.declared.regs.Regs.{Regs}
+use Rattle.card.specs.Words.{clear}
+use Rattle.card.specs.Flags.{RI, RECON}
+use Rattle.card.specs.Fields.{with-status, with-diagnostic, with-nid}
+use Rattle.card.specs.Row.{regsOf, putRegs, awake}
+use Rattle.card.specs.Events.{recovered, heard, answered, risenNid, receiving}
+use Rattle.card.specs.Bystander.{SameBut, Bystander}
+use Rattle.card.proofs.Bools.{pick-of}
+use Rattle.card.proofs.Masks.{raise-other}
+use Rattle.card.proofs.Rows.{put-mark, put-rest, regs-put}
+
+-- ---- the registers
+but-with : (g : Regs) (status diagnostic nid : ℕ) → SameBut g (with-status status (with-diagnostic diagnostic (with-nid nid g)))
+but-with g status diagnostic nid = record {
+  id = refl;
+  mask = refl;
+  configuration = refl;
+  setup = refl;
+  tentative = refl;
+  high = refl;
+  low = refl;
+  mode = refl;
+  transmit = refl;
+  receive = refl;
+  long = refl;
+}
+
+but-same : (g : Regs) → SameBut g g
+but-same g = but-with g (g .status) (g .diagnostic) (g .nid)
+
+but-then : (g h k : Regs) → SameBut g h → SameBut h k → SameBut g k
+but-then g h k a b = record {
+  id = b .id ∙ a .id;
+  mask = b .mask ∙ a .mask;
+  configuration = b .configuration ∙ a .configuration;
+  setup = b .setup ∙ a .setup;
+  tentative = b .tentative ∙ a .tentative;
+  high = b .high ∙ a .high;
+  low = b .low ∙ a .low;
+  mode = b .mode ∙ a .mode;
+  transmit = b .transmit ∙ a .transmit;
+  receive = b .receive ∙ a .receive;
+  long = b .long ∙ a .long;
+}
+
+-- what reaches a card leaves its RI too
+pub record Reached (g h : Regs) : Type 0 where
+  pub but : SameBut g h
+  pub receives : receiving h ≡ receiving g
+
+pub reached-same : (g : Regs) → Reached g g
+reached-same g = record { but = but-same g; receives = refl }
+
+module _ (g : Regs) where
+  pub reached-recovered : Reached g (recovered g)
+  unfolding recovered receiving
+  reached-recovered = record {
+    but = but-with g _ _ _;
+    receives = pick-of (λ (x : ℕ). clear RI x ≡ clear RI (g .status)) (awake g) (λ _. raise-other RI RECON (g .status) refl) (λ _. refl);
+  }
+
+  pub reached-heard : (token : Bool) → Reached g (heard g token)
+  unfolding heard receiving
+  reached-heard token = record { but = but-with g _ _ _; receives = refl }
+
+  pub reached-answered : (n : ℕ) (taker : Bool) → Reached g (answered g n taker)
+  unfolding answered receiving
+  reached-answered n taker = record { but = but-with g _ _ _; receives = refl }
+
+  pub reached-risen : Reached g (risenNid g)
+  unfolding risenNid receiving
+  reached-risen = record { but = but-with g _ _ _; receives = refl }
+
+-- ---- the row
+pub bystander-same : (r : List ℕ) → Bystander r r
+bystander-same r = record { mark = λ i h. refl; registers = but-same (regsOf r); behind = λ i h. refl }
+
+pub bystander-then : (r s t : List ℕ) → Bystander r s → Bystander s t → Bystander r t
+bystander-then r s t a b = record {
+  mark = λ i h. b .mark i h ∙ a .mark i h;
+  registers = but-then (regsOf r) (regsOf s) (regsOf t) (a .registers) (b .registers);
+  behind = λ i h. b .behind i h ∙ a .behind i h;
+}
+
+pub bystander-put : (r : List ℕ) (g : Regs) → 16 ≤ length r → SameBut (regsOf r) g → Bystander r (putRegs r g)
+bystander-put r g h b = record { mark = put-mark r g; registers = rw (regs-put r g h) b; behind = put-rest r g }

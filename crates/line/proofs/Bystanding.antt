@@ -1,0 +1,161 @@
+-- What a step does to a row that neither holds in TAKEN nor stores a packet: its status, its diagnostic status and its NID alone may change.
+-- Assumes nothing.
+use mathlib.Core.Path.{_≡_, _∙_, ap}
+use mathlib.Core.Bool.{Bool, true, false, _&&_}
+use mathlib.Core.List.{List}
+use mathlib.Core.Logic.{inr, ⊎-elim}
+use Prim.Native.Nat.{ℕ, _≤_, _<_}
+use native.Mathlib.Omega.{arith}
+use lib.Dec.{eqb, ltb, lit<}
+use lib.ListN.{length}
+use borrow.Author.Tests.{eqb-false}
+use Rattle.card.specs.declared.regs.Regs.{Regs}
+use Rattle.card.specs.declared.packets.Packet.{Packet}
+use Rattle.line.specs.declared.passes.Event.the-variants.{Message}
+use Rattle.line.specs.declared.traffic.Outcome.{Outcome}
+use Rattle.line.specs.declared.step.Answer.{Answer}
+use Rattle.card.specs.Row.{rowBytes, regsOf}
+use Rattle.card.specs.Packets.{malformed, pageShape, destination, packetAt, dataAt, stored}
+use Rattle.card.specs.Events.{received, cancelled, transmitting, receiving, transmitPage, receivePage, storable}
+use Rattle.card.specs.Bystander.{Bystander}
+use Rattle.card.proofs.Bools.{and-left, and-right, pick-of}
+use Rattle.card.proofs.Rows.{length-put, regs-put}
+use Rattle.card.proofs.Traffic.{received-ends, transmit-page-small}
+use Rattle.card.proofs.PacketLaws.{Ram, packet-full, packet-count}
+use Rattle.card.proofs.Rams.{Small, packet-bytes}
+use Rattle.line.specs.Network.{rows, phase, holder, LOST, PASS, TAKEN, rowAt, setRow, regsAt, nodeOf, shape}
+use Rattle.line.specs.Traffic.{Turn, onRow, happened, storedRow, takes, carriedRow, carried, damaged, stampedNet, wentOut, broadcastTurn, packetTurn, enquiryTurn, tryTurn, takenTurn}
+use Rattle.line.specs.Step.{stepTurn, stepNumber, step}
+use Rattle.line.proofs.Folds.{clash}
+use Rattle.line.proofs.Networks.{rowAt-turned, setRow-header, rowAt-setRow-other}
+use Rattle.card.proofs.Pages.{length-stamped}
+use Rattle.line.proofs.Shapes.{shape-within, shape-row, shape-row-length, shape-phase, shape-holder}
+use Rattle.line.proofs.ShapesKept.{Became, became-each}
+use Rattle.line.proofs.Became.{became-rows, shape-moved, shape-still, still-moved}
+use Rattle.line.proofs.Alike.{Rams, alike-moved}
+use Rattle.line.proofs.StepsKeep.{moved-happened, still-onRow, still-stamped}
+use Rattle.line.proofs.RegsKeep.{stays-cancelled}
+use Rattle.line.proofs.TrafficKeep.{carried-still, still-wentOut}
+use Rattle.line.proofs.Watches.{Receives, Watches, watches-same, watches-then, watched-happened, watched-lost, watched-pass}
+
+-- ---- TAKEN: every row but the holder h
+record Aside (h : ℕ) (net new : List ℕ) : Type 0 where
+  count : rows new ≡ rows net
+  row : (j : ℕ) → j < rows net → (j ≡ h → ⊥) → Watches (rowAt net j) (rowAt new j)
+
+module _ (h : ℕ) where
+  aside-then : {net new last : List ℕ} → Aside h net new → Aside h new last → Aside h net last
+  aside-then a b = record {
+    count = b .count ∙ a .count;
+    row = λ j l n. watches-then _ _ _ (a .row j l n) (b .row j (omega (arith, a .count)) n);
+  }
+
+  aside-became : {net new : List ℕ} → Became Watches net new → Aside h net new
+  aside-became c = record { count = became-rows c; row = λ j l n. c .row j l }
+
+  -- a row that is given other bytes is the holder's
+  aside-set : (net : List ℕ) → shape net ≡ true → h < rows net → (r : List ℕ) → length r ≡ rowBytes → Aside h net (setRow net h r)
+  aside-set net s l r e = record {
+    count = setRow-header net h r (shape-within net s h l) e 3 (lit< tt);
+    row = λ j b n. rw (rowAt-setRow-other net h r (shape-within net s h l) e j n (shape-within net s j b)) (watches-same (rowAt net j));
+  }
+
+  aside-onRow : (net : List ℕ) → shape net ≡ true → h < rows net → (f : Regs → Regs) → Aside h net (onRow net h f)
+  unfolding onRow
+  aside-onRow net s l f = aside-set net s l _ (length-put (rowAt net h) _ ∙ shape-row-length net s h l)
+
+  -- a packet that reaches the rows: where it is stored, RI was 0 and is 1
+  module _ (k : Packet) (full : 512 ≤ length (k .bytes)) (count : dataAt (k .shape) < 256) (small : Small (k .bytes)) (to : ℕ) (broadcast : Bool) where
+    watches-stored : (r : List ℕ) → length (storedRow r k) ≡ rowBytes → Receives r ≡ true → Watches r (storedRow r k)
+    watches-stored r l a =
+        let m = stored r (receivePage (regsOf r)) k in
+        inr (a, ap receiving (regs-put m (received (regsOf m)) (omega (arith, length-put m (received (regsOf m))))) ∙ received-ends (regsOf m))
+
+    aside-carried : (net : List ℕ) → shape net ≡ true → Aside h net (carried net h to broadcast k)
+    unfolding carried
+    aside-carried net s =
+        aside-became (became-each {R = Watches} (carriedRow h to broadcast k) net s
+        (λ j l. let r = rowAt net j in
+        let e = carried-still k full count small h to broadcast j r (shape-row-length net s j l) (shape-row net s j l) .0 in
+        let t = takes h to broadcast j (regsOf r) in
+        let b = storable (regsOf r) (k .shape) in (
+          e,
+          pick-of (λ (x : List ℕ). length x ≡ rowBytes → Watches r x) (t && Receives r && b)
+              (λ z m. watches-stored r m (and-right t (Receives r) (and-left (t && Receives r) b z))) (λ _ _. watches-same r) e,
+        )))
+
+  -- ---- the turns of TAKEN
+  module _ (net : List ℕ) (s : shape net ≡ true) (l : h < rows net) where
+    aside-heard : Aside h net (happened net (Message h false))
+    aside-heard = aside-became (watched-happened net s (Message h false))
+
+    aside-put : (new : List ℕ) → Aside h net new → shape new ≡ true → (f : Regs → Regs) → Aside h net (onRow new h f)
+    aside-put new a n f = aside-then a (aside-onRow new n (omega (arith, a .count)) f)
+
+    heard-put : (f : Regs → Regs) → Aside h net (onRow (happened net (Message h false)) h f)
+    heard-put f = aside-put _ aside-heard (shape-moved s (moved-happened net (Message h false) s)) f
+
+    module _ (b : Rams net) (p fault : ℕ) (small : p < 4) where
+      aside-wentOut : (to : ℕ) (broadcast : Bool) → Aside h net (wentOut net h p fault to broadcast)
+      unfolding wentOut
+      aside-wentOut to broadcast =
+          let m = stampedNet net h p in
+          let c = still-stamped net h s l p in
+          let sm = shape-still s c in
+          let a = aside-set net s l _ (length-stamped (rowAt net h) p ∙ shape-row-length net s h l) in
+          let d = aside-then a (aside-became (watched-happened m sm (Message h false))) in
+          let full = packet-full (rowAt m h) p (shape-row-length m sm h (omega (arith, became-rows c))) small in
+          let ram : Ram (rowAt m h) = c .row h l .moved .ram (b h l .1) (b h l .0) in
+          pick-of (Aside h net) (damaged fault) (λ _. d)
+          (λ _. aside-then d (aside-carried (packetAt (rowAt m h) p) (omega arith) (packet-count (rowAt m h) p ram) (packet-bytes (rowAt m h) ram p) to broadcast
+          _ (shape-moved sm (moved-happened m (Message h false) sm))))
+
+      aside-packet : (to : ℕ) (broadcast : Bool) (f : Regs → Regs) → Aside h net (onRow (wentOut net h p fault to broadcast) h f)
+      aside-packet to broadcast f = aside-put _ (aside-wentOut to broadcast) (shape-still s (still-wentOut net s h l b p fault small to broadcast)) f
+
+      abbrev After : Turn Outcome → Type 0
+      After x = Aside h net (x .after)
+
+      aside-enquiry : (t : ℕ) → After (enquiryTurn net h p fault t)
+      unfolding enquiryTurn packetTurn
+      aside-enquiry t =
+          pick-of After (ltb t (rows net)) (λ _. pick-of After (receiving (regsAt net t)) (λ _. aside-packet t false _) (λ _. heard-put _)) (λ _. heard-put _)
+
+      aside-try : After (tryTurn net h p fault)
+      unfolding tryTurn broadcastTurn
+      aside-try =
+          pick-of After (malformed (pageShape (rowAt net h) p)) (λ _. aside-onRow net s l _)
+          (λ _. pick-of After (eqb (destination (rowAt net h) p) 0) (λ _. aside-packet (rows net) true _)
+          (λ _. aside-enquiry (nodeOf net (destination (rowAt net h) p) h (rows net))))
+
+  aside-taken : (net : List ℕ) → shape net ≡ true → Rams net → h < rows net → (fault : ℕ) → Aside h net (takenTurn net h fault .after)
+  unfolding takenTurn
+  aside-taken net s b l fault =
+      let m = onRow net h cancelled in
+      let a = aside-onRow net s l cancelled in
+      let c = still-onRow net h s l cancelled stays-cancelled in
+      pick-of (λ (x : Turn Outcome). Aside h net (x .after)) (transmitting (regsAt m h))
+      (λ _. aside-then a (aside-try m (shape-still s c) (omega (arith, a .count)) (alike-moved net s b m (still-moved c) .rams)
+      (transmitPage (regsAt m h)) fault (transmit-page-small (regsAt m h))))
+      (λ _. a)
+
+-- ---- a step
+module _ (net : List ℕ) (s : shape net ≡ true) (b : Rams net) (fault j : ℕ) (l : j < rows net) (n : phase net ≡ TAKEN → j ≡ holder net → ⊥) where
+  abbrev Seen : Turn Answer → Type 0
+  Seen x = Watches (rowAt net j) (rowAt (x .after) j)
+
+  watches-turn : Seen (stepTurn net fault)
+  unfolding stepTurn
+  watches-turn =
+      pick-of Seen (eqb (phase net) LOST) (λ _. watched-lost net s j l)
+      (λ t. let d = shape-holder net s (eqb-false (phase net) LOST t) in
+      pick-of Seen (eqb (phase net) PASS) (λ _. watched-pass net s fault (d .0) j l)
+      (λ u. let e : phase net ≡ TAKEN = omega (arith, shape-phase net s, eqb-false (phase net) LOST t, eqb-false (phase net) PASS u) in
+      rw (rowAt-turned (takenTurn net (holder net) fault .after) PASS (holder net) j) (aside-taken (holder net) net s b (d .0) fault .row j l (n e))))
+
+  watches-step : Seen (step net fault)
+  unfolding step
+  watches-step = pick-of Seen (eqb (stepNumber net fault) 0) (λ _. watches-turn) (λ _. watches-same (rowAt net j))
+
+  pub bystands : receiving (regsAt (step net fault .after) j) ≡ receiving (regsAt net j) → Bystander (rowAt net j) (rowAt (step net fault .after) j)
+  bystands e = ⊎-elim (λ a. a .0) (λ a. absurd (clash (e ∙ a .0) (a .1))) watches-step
