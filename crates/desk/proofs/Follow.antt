@@ -14,12 +14,12 @@ use Rattle.line.specs.Network.{rows, phase, holder, regsAt, onLineAt, shape}
 use Rattle.line.specs.Step.{step, invited, taker, answerValue}
 use Rattle.line.proofs.Shapes.{shape-ids}
 use Rattle.desk.specs.Lap.{after, answers, passed}
-use Rattle.line.proofs.View.{alike-then, taker-step, AfterNone, none-step, held-step}
+use Rattle.line.proofs.View.{Alike, alike-then, taker-step, AfterNone, none-step, held-step}
 use Rattle.desk.proofs.Ring.{Call, Took, Missed, Spoke, Ring, next, upd, turn, Runs, stop, go}
 use Rattle.desk.proofs.Scan.{upd-same, upd-other}
 use Rattle.desk.proofs.Steps.{after-none, after-first, answers-none, answers-first, seen}
 use Rattle.line.proofs.Calm.{alike-nodes, same-nodes-then}
-use Rattle.desk.proofs.Shows.{on, Shows, invites, took-row, took-on, took-id, took-heeds, missed}
+use Rattle.desk.proofs.Shows.{on, phaseOf, Shows, invites, took-row, took-on, took-id, took-heeds, missed}
 
 module _ (net : List ℕ) (s : shape net ≡ true) where
   -- ---- one step: what it tells, and what the network after it shows
@@ -32,21 +32,28 @@ module _ (net : List ℕ) (s : shape net ≡ true) where
     abbrev Holds : Bool → Type 0
     Holds t = Shows net s now (record { taken = t; holder = g; nid = f })
 
+    -- the row h holds in the network that a step leaves, and the NIDs are the ring's
+    shown : {t u : Bool} → Holds t → {new : List ℕ} → Alike now new → phase new ≡ phaseOf u → (h : ℕ) → holder new ≡ h → h < rows net → onLineAt net h ≡ true
+        → {i : ℕ} → regsAt net h .id ≡ i → {n : ℕ → ℕ}
+        → ((k : ℕ) → k < rows net → onLineAt net k ≡ true → regsAt new k .nid ≡ n (regsAt net k .id)) → Shows net s new (record { taken = u; holder = i; nid = n })
+    shown w a p h e l o d n = record {
+      fits = a .fits;
+      rams = a .rams;
+      nodes = same-nodes-then (w .nodes) (alike-nodes a);
+      phase-is = p;
+      row = rw e l;
+      row-on = rw e o;
+      row-id = rw e d;
+      nids = n;
+    }
+
     held : Holds true → Followed now (Spoke, record { taken = false; holder = g; nid = f })
     held w =
         let a = held-step now (w .fits) (w .rams) (w .phase-is) in record {
           told = rw (a .answer);
           passed-to = rw (a .answer) (λ t. absurd (false≢true t));
-          shows = record {
-            fits = a .alike .fits;
-            rams = a .alike .rams;
-            nodes = same-nodes-then (w .nodes) (alike-nodes (a .alike));
-            phase-is = a .phase;
-            row = rw (a .holder) (w .row);
-            row-on = rw (a .holder) (w .row-on);
-            row-id = rw (a .holder) (w .row-id);
-            nids = λ k l o. a .nid k (omega (arith, w .nodes .count)) ∙ w .nids k l o;
-          };
+          shows = shown w (a .alike) (a .phase) (holder now) (a .holder) (w .row) (w .row-on) (w .row-id)
+              (λ k l o. a .nid k (omega (arith, w .nodes .count)) ∙ w .nids k l o);
         }
 
     -- nobody took the token: the holder's NID rises, and no other
@@ -71,16 +78,8 @@ module _ (net : List ℕ) (s : shape net ≡ true) where
             rw (took-heeds net s now g f false w q) (record {
               told = rw (a .answer) (ap Took (took-id net s now g f false w q));
               passed-to = rw (a .answer) (λ t. sym (a .holder));
-              shows = record {
-                fits = a .alike .fits;
-                rams = a .alike .rams;
-                nodes = same-nodes-then (w .nodes) (alike-nodes (a .alike));
-                phase-is = a .phase;
-                row = rw (a .holder) (took-row net s now g f false w q);
-                row-on = rw (a .holder) (took-on net s now g f false w q);
-                row-id = rw (a .holder) (took-id net s now g f false w q);
-                nids = λ k l o. a .nid k (omega (arith, w .nodes .count)) ∙ w .nids k l o;
-              };
+              shows = shown w (a .alike) (a .phase) (taker now) (a .holder) (took-row net s now g f false w q) (took-on net s now g f false w q)
+                  (took-id net s now g f false w q) (λ k l o. a .nid k (omega (arith, w .nodes .count)) ∙ w .nids k l o);
             })
         by false t =
             let q = ltb-false (taker now) (rows now) t in
@@ -89,16 +88,7 @@ module _ (net : List ℕ) (s : shape net ≡ true) where
             rw (missed net s now g f false w q) (record {
               told = rw (a .answer) (ap Missed i);
               passed-to = rw (a .answer) (λ t. absurd (false≢true t));
-              shows = record {
-                fits = a .alike .fits;
-                rams = a .alike .rams;
-                nodes = same-nodes-then (w .nodes) (alike-nodes (a .alike));
-                phase-is = a .phase;
-                row = rw (a .holder) (w .row);
-                row-on = rw (a .holder) (w .row-on);
-                row-id = rw (a .holder) (w .row-id);
-                nids = λ k l o. risen w a i k l o;
-              };
+              shows = shown w (a .alike) (a .phase) (holder now) (a .holder) (w .row) (w .row-on) (w .row-id) (risen w a i);
             })
 
   pub follow : (now : List ℕ) (g : ℕ) (f : ℕ → ℕ) (t : Bool) → Shows net s now (record { taken = t; holder = g; nid = f })

@@ -68,10 +68,15 @@ fn write(s: &[u8], n: usize) {
     }
 }
 
+// What is gathered is written.
+pub(crate) fn flush(out: &mut [u8; ROOM], n: usize) {
+    write(out, n);
+}
+
 // The line ends, and what is gathered is written.
 pub fn end(out: &mut [u8; ROOM], n: usize) {
     let n = put(out, n, b'\n');
-    write(out, n);
+    flush(out, n);
 }
 
 // A number at the right of a column of four.

@@ -1,9 +1,8 @@
 // Text on standard output, for the programs. Bytes are two digits in hex; other numbers are decimal.
 pub mod gather;
 
+use gather::ROOM;
 use libc::STDOUT_FILENO;
-
-const DIGITS: [u8; 16] = *b"0123456789ABCDEF";
 
 pub fn text(s: &[u8]) {
     io::write_all(STDOUT_FILENO, s);
@@ -14,8 +13,9 @@ pub fn decimal(n: usize) {
 }
 
 pub fn byte(b: u8) {
-    let digits = [DIGITS[(b / 16) as usize], DIGITS[(b % 16) as usize]];
-    text(&digits);
+    let mut out = [0u8; ROOM];
+    let n = gather::byte(&mut out, 0, b);
+    gather::flush(&mut out, n);
 }
 
 // A number after a space.
@@ -38,15 +38,8 @@ pub fn bytes(s: &[u8]) {
 }
 
 // A number at the right of a column of four.
-pub fn column(n: usize) {
-    if n < 1000 {
-        text(b" ");
-    }
-    if n < 100 {
-        text(b" ");
-    }
-    if n < 10 {
-        text(b" ");
-    }
-    decimal(n);
+pub fn column(number: usize) {
+    let mut out = [0u8; ROOM];
+    let n = gather::column(&mut out, 0, number);
+    gather::flush(&mut out, n);
 }
