@@ -65,7 +65,7 @@ receiving g = clear RI (g .status)
 
 -- "awake row .. with RI = 0 and broadcasts wanted"
 unfoldable pub takesBroadcasts : Regs → Bool
-takesBroadcasts g = awake g && clear RI (g .status) && has BROADCASTS (g .receive)
+takesBroadcasts g = awake g && receiving g && has BROADCASTS (g .receive)
 
 -- "bits 1-0 page"
 unfoldable pub transmitPage : Regs → ℕ

@@ -150,7 +150,7 @@ impl Regs {
     pub fn takes_broadcasts(self) -> bool
         ensures { λ r. ⌜ r ≡ takesBroadcasts self ⌝ }
     {
-        self.awake() & (self.status & RI == 0) & (self.receive & BROADCASTS != 0)
+        self.awake() & self.receiving() & (self.receive & BROADCASTS != 0)
     }
 
     pub fn transmit_page(self) -> usize

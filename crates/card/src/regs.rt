@@ -2,7 +2,7 @@
 ghost use mathlib.Core.Path.{_≡_};
 ghost use Prim.Native.Nat.{_<_};
 ghost use Rattle.card.specs.Row.{awake, onLine, fit};
-ghost use Rattle.card.specs.Registers.{pointer, stepped, seventh, readValue, afterRead, hardwareReset, configured, interrupt, commanded, writesId, seventhWritten, afterWrite};
+ghost use Rattle.card.specs.Registers.{sub, pointer, stepped, seventh, readValue, afterRead, hardwareReset, configured, interrupt, commanded, writesId, seventhWritten, afterWrite};
 ghost use Rattle.card.specs.Refusals.{noRegister, badValue, busy, oddPage, readCases, writeCases};
 use crate::commands::Command;
 use crate::commands::decode;
@@ -60,6 +60,9 @@ const SETUP: u8 = 7;
 
 const MODE: u8 = RDDATA | AUTO_INC | LOW2;
 
+// "status 91 hex", after a reset of either kind.
+const AFTER_RESET: u8 = RI | POR | TA;
+
 const TRANSMIT: u8 = CANCEL | LOW2;
 
 const RECEIVE: u8 = CANCEL | BROADCASTS | LOW2;
@@ -88,7 +91,7 @@ impl Regs {
     {
         Regs {
             id: 0,
-            status: 0x91,
+            status: AFTER_RESET,
             diagnostic: 0,
             mask: 0,
             configuration: 0x18,
@@ -172,10 +175,17 @@ impl Regs {
         g
     }
 
+    // What register 7 is, by sub-address: 00 tentative ID, 01 node ID, 10 setup.
+    fn sub_address(self) -> u8
+        ensures { λ r. ⌜ r ≡ sub self ⌝ }
+    {
+        self.configuration % 4
+    }
+
     fn seventh(self) -> u8
         ensures { λ r. ⌜ r ≡ seventh self ⌝ }
     {
-        let sub = self.configuration % 4;
+        let sub = self.sub_address();
         choose(
             sub == 0,
             self.tentative,
@@ -222,7 +232,7 @@ impl Regs {
         if value & RESET == 0 {
             return g;
         }
-        g.status = 0x91;
+        g.status = AFTER_RESET;
         g.diagnostic = 0;
         g.mask = 0;
         g.transmit = 0;
@@ -271,13 +281,13 @@ impl Regs {
     pub fn writes_id(self, register: usize) -> bool
         ensures { λ r. ⌜ r ≡ writesId self register ⌝ }
     {
-        (register == 7) & (self.configuration % 4 == 1)
+        (register == 7) & (self.sub_address() == 1)
     }
 
     fn seventh_written(self, value: u8) -> Regs
         ensures { λ r. ⌜ r ≡ seventhWritten self value ⌝ }
     {
-        let sub = self.configuration % 4;
+        let sub = self.sub_address();
         let mut g = self;
         if sub == 0 {
             g.tentative = value;
@@ -322,7 +332,7 @@ impl Regs {
     fn no_register(self, register: usize) -> bool
         ensures { λ r. ⌜ r ≡ noRegister self register ⌝ }
     {
-        (7 < register) | (register == 5) | (register == 7) & (self.configuration % 4 == 3)
+        (7 < register) | (register == 5) | (register == 7) & (self.sub_address() == 3)
     }
 
     // VALUE: a bit that the register has no name for, or a byte that is no command.
@@ -333,7 +343,7 @@ impl Regs {
             | (register == 1) & decode(value).illegal()
             | (register == 2) & (value & !MODE != 0)
             | (register == 6) & (value & !CONFIGURATION != 0)
-            | (register == 7) & (self.configuration % 4 == 2) & (value & !SETUP != 0)
+            | (register == 7) & (self.sub_address() == 2) & (value & !SETUP != 0)
     }
 
     // BUSY: what the command would start or change is enabled already.
@@ -344,9 +354,9 @@ impl Regs {
             Command::Illegal => false,
             Command::DisableTransmitter => false,
             Command::DisableReceiver => false,
-            Command::EnableTransmit(_) => self.status & TA == 0,
-            Command::EnableReceive(_, _) => self.status & RI == 0,
-            Command::LongPackets(_) => (self.status & TA == 0) | (self.status & RI == 0),
+            Command::EnableTransmit(_) => self.transmitting(),
+            Command::EnableReceive(_, _) => self.receiving(),
+            Command::LongPackets(_) => self.transmitting() | self.receiving(),
             Command::ClearFlags(_, _) => false,
         }
     }

@@ -4,9 +4,9 @@ use Rattle.card.proofs.regs.Regs.bad_value.Statement.{statement}
 use Rattle.card.proofs.regs.Regs.bad_value.Tie as tie
 
 returns : tie.Need-returns
-returns c = simp (c .before .illegal .ensures, c .before .before .decode .ensures)
+returns c = simp (c .sub-address .ensures, c .before .illegal .ensures, c .before .before .decode .ensures)
 
 pub bad-value-spec : {M : Type 1} → statement M
 bad-value-spec =
     tie.close
-    (tie.spec (λ c κs. search needs) (λ c κs. search needs) returns)
+    (tie.spec (λ c κs. search needs) (λ c κs. search needs) (λ c κs. search needs) returns)

@@ -4,9 +4,9 @@ use Rattle.card.proofs.regs.Regs.seventh.Statement.{statement}
 use Rattle.card.proofs.regs.Regs.seventh.Tie as tie
 
 returns : tie.Need-returns
-returns c = simp (c .choose2 .ensures, c .before .choose .ensures)
+returns c = simp (c .choose2 .ensures, c .before .choose .ensures, c .before .before .sub-address .ensures)
 
 pub seventh-spec : {M : Type 1} → statement M
 seventh-spec =
     tie.close
-    (tie.spec (λ c κs. search needs) (λ c κs. search needs) returns)
+    (tie.spec (λ c κs. search needs) (λ c κs. search needs) (λ c κs. search needs) returns)

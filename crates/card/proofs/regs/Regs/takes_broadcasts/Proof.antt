@@ -6,9 +6,9 @@ use Rattle.card.proofs.regs.Regs.takes_broadcasts.Tie as tie
 
 returns : tie.Need-returns
 unfolding takesBroadcasts
-returns c = simp (c .before .before .awake .ensures)
+returns c = simp (c .before .receiving .ensures, c .before .before .awake .ensures)
 
 pub takes-broadcasts-spec : {M : Type 1} → statement M
 takes-broadcasts-spec =
     tie.close
-    (tie.spec (λ c κs. search needs) returns)
+    (tie.spec (λ c κs. search needs) (λ c κs. search needs) returns)

@@ -4,8 +4,11 @@ use borrow.Author.Needs.{needs}
 use Rattle.card.proofs.regs.Regs.writes_id.Statement.{statement}
 use Rattle.card.proofs.regs.Regs.writes_id.Tie as tie
 
-pub writes-id-spec : {M : Type 1} → statement M
+returns : tie.Need-returns
 unfolding writesId
+returns c = simp (c .sub-address .ensures)
+
+pub writes-id-spec : {M : Type 1} → statement M
 writes-id-spec =
     tie.close
-    (tie.spec (λ c. search needs))
+    (tie.spec (λ c κs. search needs) returns)
