@@ -23,6 +23,7 @@ use Rattle.desk.proofs.LaterLap.{settled, settledRing, settled-counts, 
 use Rattle.desk.proofs.Steps.{invitations-seen, takers-seen}
 use Rattle.desk.proofs.Shows.{on, Shows}
 use Rattle.desk.proofs.Back as back
+use Rattle.desk.proofs.InRows.{by-nodes}
 use Rattle.desk.proofs.History.{Went, went}
 use Rattle.desk.proofs.Waits.{highestId, beginning, waits-went, waits}
 
@@ -95,6 +96,7 @@ module _ (start : List ℕ) (s : shape start ≡ true) (b : Rams start) (lost : 
       let h = home-phase (table l now) (w .shows) in record {
         invited = invitations-seen start (answersOf l now) ∙ ap invites (w .told) ∙ e;
         taken = takers-seen start (answersOf l now) 0 ∙ ap takes (w .told) ∙ t ∙ sym (ids-roster start);
+        in-rows = by-nodes start (answersOf l now) 0 (w .to-nodes);
         back = h .0;
         with = h .1;
       }

@@ -18,6 +18,7 @@ use Rattle.desk.proofs.Ring.{Ring, turn, Runs, stop, go}
 use Rattle.desk.proofs.Steps.{seen}
 use Rattle.desk.proofs.Shows.{on, Shows}
 use Rattle.desk.proofs.Follow.{Followed, follow}
+use Rattle.desk.proofs.InRows.{ToNodes}
 
 -- the nodes of two networks are those of a third
 pub nodes-between : (start net new : List ℕ) → SameNodes start net → SameNodes start new → SameNodes net new
@@ -57,19 +58,24 @@ module _ (start : List ℕ) (s : shape start ≡ true) where
   -- ---- a history with as many steps as the run has turns
   pub record Went (now : List ℕ) (l : List Call) (m : List ring.Call) (r : Ring) : Type 0 where
     pub told : map (seen start) (answersOf l now) ≡ m
+    pub to-nodes : ToNodes start (answersOf l now)
     pub shows : Shows start s (table l now) r
 
   pub went : (l : List Call) {r t : Ring} {m : List ring.Call} → Runs (on start s) r m t → steps l ≡ length m → (now : List ℕ) → Shows start s now r
       → Throughout start l now → Went now l m t
   unfolding table steps answersOf Throughout
-  went [] stop e now w h = record { told = refl; shows = w }
+  went [] stop e now w h = record { told = refl; to-nodes = tt; shows = w }
   went [] (go x p) e now w h = absurd (omega arith)
   went (Step ∷ l) stop e now w h = absurd (omega arith)
   went (Step ∷ l) (go {r = r} {a = a} x p) e now w h =
       let d = rw x at (follow start s now (r .holder) (r .nid) (r .taken) w) in
       let v = went l p (suc-inj e) (step now 0 .after) (d .shows) (h .1 .1) in
-      record { told = rw (d .told) (ap (a ∷_) (v .told)); shows = v .shows }
-  went (Read k g ∷ l) p e now w h = let v = went l p e _ (shows-read now _ w k g) (h .1 .1) in record { told = v .told; shows = v .shows }
-  went (Write k g x ∷ l) p e now w h = let v = went l p e _ (shows-write now _ w k g x (h .0) (h .1 .0)) (h .1 .1) in record { told = v .told; shows = v .shows }
-  went (Reset k ∷ l) p e now w h = let v = went l p e _ (shows-reset now _ w k (h .1 .0)) (h .1 .1) in record { told = v .told; shows = v .shows }
-  went (Look ∷ l) p e now w h = let v = went l p e now w (h .1 .1) in record { told = v .told; shows = v .shows }
+      record {
+        told = rw (d .told) (ap (a ∷_) (v .told));
+        to-nodes = (λ p. rw (d .passed-to p) (d .shows .row, d .shows .row-on), v .to-nodes);
+        shows = v .shows;
+      }
+  went (Read k g ∷ l) p e now w h = let v = went l p e _ (shows-read now _ w k g) (h .1 .1) in record { told = v .told; to-nodes = v .to-nodes; shows = v .shows }
+  went (Write k g x ∷ l) p e now w h = let v = went l p e _ (shows-write now _ w k g x (h .0) (h .1 .0)) (h .1 .1) in record { told = v .told; to-nodes = v .to-nodes; shows = v .shows }
+  went (Reset k ∷ l) p e now w h = let v = went l p e _ (shows-reset now _ w k (h .1 .0)) (h .1 .1) in record { told = v .told; to-nodes = v .to-nodes; shows = v .shows }
+  went (Look ∷ l) p e now w h = let v = went l p e now w (h .1 .1) in record { told = v .told; to-nodes = v .to-nodes; shows = v .shows }

@@ -17,6 +17,7 @@ pub mod Steps
 pub mod Hops
 pub mod Shows
 pub mod Follow
+pub mod InRows
 pub mod History
 pub mod Told
 pub mod Back

@@ -1,7 +1,7 @@
 -- Before the recovery: the line waits in LOST whatever calls come, and the first step recovers.
 -- Assumes nothing.
 use mathlib.Core.Path.{_≡_, sym, ap, _∙_}
-use mathlib.Core.Bool.{true, false}
+use mathlib.Core.Bool.{true, false, false≢true}
 use mathlib.Core.List.{List, [], _∷_}
 use Prim.Native.Nat.{ℕ, suc, _≤_, _<_}
 use native.Mathlib.Nat.{suc-inj}
@@ -12,7 +12,7 @@ use Rattle.line.specs.Step.{step, highest}
 use Rattle.line.proofs.Nodes.{node-id, nodeOf-found}
 use Rattle.line.proofs.StepShape.{highest-held}
 use Rattle.line.proofs.View.{Rams, alike-same, lost-step}
-use Rattle.desk.specs.Lap.{nodes}
+use Rattle.desk.specs.Lap.{nodes, passed}
 use Rattle.desk.specs.Demand.{Call, Step, Read, Write, Reset, Look, table, steps, answersOf, Throughout}
 use Rattle.line.proofs.Calm.{Calm, calm-read, calm-write, calm-reset, alike-nodes, same-nodes-then}
 use Rattle.desk.proofs.Ring as ring
@@ -93,6 +93,10 @@ module _ (start : List ℕ) (s : shape start ≡ true) (b : Rams start) (lost : 
           nids = λ k l o. a .nid k (omega (arith, n)) (w .nodes-same .online k l ∙ o) ∙ w .nodes-same .id k l o;
         }
 
+    -- the recovery passes the token to nobody
+    untold : {A : Type 0} → passed (step now 0 .answer) ≡ true → A
+    untold = let a = lost-step now (w .fits) (w .rams) (w .lost-still) some-top in rw (a .answer) (λ t. absurd (false≢true t))
+
     recovers : seen start (step now 0 .answer) ≡ Spoke
     recovers = let a = lost-step now (w .fits) (w .rams) (w .lost-still) some-top in rw (a .answer)
 
@@ -106,16 +110,16 @@ module _ (start : List ℕ) (s : shape start ≡ true) (b : Rams start) (lost : 
   waits-went [] r e now w h = absurd (omega arith)
   waits-went (Step ∷ l) r e now w h =
       let v = went start s l r (suc-inj e) (step now 0 .after) (begins now w) (h .1 .1) in
-      record { told = rw (recovers now w) (ap (Spoke ∷_) (v .told)); shows = v .shows }
+      record { told = rw (recovers now w) (ap (Spoke ∷_) (v .told)); to-nodes = (untold now w, v .to-nodes); shows = v .shows }
   waits-went (Read k g ∷ l) r e now w h =
-      let v = waits-went l r e _ (still-waits now _ w (calm-read now (w .fits) (w .rams) k g)) (h .1 .1) in record { told = v .told; shows = v .shows }
+      let v = waits-went l r e _ (still-waits now _ w (calm-read now (w .fits) (w .rams) k g)) (h .1 .1) in record { told = v .told; to-nodes = v .to-nodes; shows = v .shows }
   waits-went (Write k g x ∷ l) r e now w h =
       let c = calm-write now (w .fits) (w .rams) k g x (h .0) (nodes-between start now _ (w .nodes-same) (h .1 .0)) in
-      let v = waits-went l r e _ (still-waits now _ w c) (h .1 .1) in record { told = v .told; shows = v .shows }
+      let v = waits-went l r e _ (still-waits now _ w c) (h .1 .1) in record { told = v .told; to-nodes = v .to-nodes; shows = v .shows }
   waits-went (Reset k ∷ l) r e now w h =
       let c = calm-reset now (w .fits) (w .rams) k (nodes-between start now _ (w .nodes-same) (h .1 .0)) in
-      let v = waits-went l r e _ (still-waits now _ w c) (h .1 .1) in record { told = v .told; shows = v .shows }
-  waits-went (Look ∷ l) r e now w h = let v = waits-went l r e now w (h .1 .1) in record { told = v .told; shows = v .shows }
+      let v = waits-went l r e _ (still-waits now _ w c) (h .1 .1) in record { told = v .told; to-nodes = v .to-nodes; shows = v .shows }
+  waits-went (Look ∷ l) r e now w h = let v = waits-went l r e now w (h .1 .1) in record { told = v .told; to-nodes = v .to-nodes; shows = v .shows }
 
   pub waits : Waits start
   waits = record { fits = s; rams = b; nodes-same = alike-nodes (alike-same start s b); lost-still = lost }

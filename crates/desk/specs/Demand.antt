@@ -79,12 +79,19 @@ idsFrom net a (suc k) = pick (some (isNode net a) (rows net)) (a ∷ idsFrom net
 abbrev pub idsOnLine : List ℕ → List ℕ
 idsOnLine net = idsFrom net 0 256
 
+-- each entry names a node: a row on line, with the entry's ID
+unfoldable pub ByNodes : List ℕ → List Taker → Type 0
+ByNodes start [] = Unit {0}
+ByNodes start (t ∷ l) = (t .row < rows start) × ((isNode start (t .id) (t .row) ≡ true) × ByNodes start l)
+
 -- a lap of the nodes of `start`: what its steps answered, with i invitations, and the network that it ends with
 pub record LapOf (start : List ℕ) (l : List Answer) (i : ℕ) (end : List ℕ) : Type 0 where
   -- the Unanswered and Passed answers
   pub invited : invitations l ≡ i
   -- "each on-line node takes it exactly once, lowest ID first"
   pub taken : map (λ (t : Taker). t .id) (takers start 0 l) ≡ idsOnLine start
+  -- "in whichever rows they stand": the row that an entry names carries its ID
+  pub in-rows : ByNodes start (takers start 0 l)
   -- "until the token is back with the highest ID"
   pub back : phase end ≡ TAKEN
   pub with : holder end ≡ highest start

@@ -3,7 +3,7 @@
 use mathlib.Core.Path.{_≡_}
 use mathlib.Core.Bool.{true, false}
 use mathlib.Core.List.{List, []}
-use Prim.Native.Nat.{ℕ, _+_, _<_}
+use Prim.Native.Nat.{ℕ, _+_, _*_, _<_}
 use lib.ListN.{length, getD}
 use Rattle.card.specs.Events.{receiving}
 use Rattle.card.specs.Bystander.{Bystander}
@@ -13,8 +13,8 @@ use Rattle.line.specs.Step.{step, answerNumber, answerValue}
 use Rattle.desk.specs.declared.laps.Taker.{Taker}
 use Rattle.desk.specs.Order.{records, orderFits, nameAt}
 use Rattle.desk.specs.Load.{loadNumber, netAfterLoad}
-use Rattle.desk.specs.Lap.{nodes, answers, takers, lapSteps, lapNumber, lapped, netAfterLap, lapTakers, listAfterLap}
-use Rattle.desk.specs.Demand.{LapOf}
+use Rattle.desk.specs.Lap.{nodes, after, answers, takers, lapSteps, lapNumber, lapped, netAfterLap, lapTakers, listAfterLap}
+use Rattle.desk.specs.Demand.{Call, table, steps, answersOf, Throughout, LapOf}
 
 -- ---- "A refusal returns 0, or length 0, beside its number, and no lent byte or entry changes": the number is a refusal's
 abbrev pub Refused : ℕ → Type 0
@@ -71,9 +71,19 @@ pub record OneOutcome : Type 0 where
   pub lap : (net : List ℕ) (list : List Taker) → Only2 (lapped net (length list)) (netAfterLap net (length list))
   pub lap-list : (net : List ℕ) (list : List Taker) → Only (listAfterLap net list)
 
--- ---- the lap call is the lap: where it is not refused, its total, its entries and the network that it leaves are those of a lap, whose steps iterate the step
+-- ---- the lap call is the lap: where it is not refused, its total, its entries and the network that it leaves are those of a lap, whose steps iterate the step;
+-- "it makes 256 + 2n line steps", and writes n entries
+pub record TheLap (net : List ℕ) (room : ℕ) : Type 0 where
+  pub lap : LapOf net (answers (lapSteps net) net) (lapped net room .total) (netAfterLap net room)
+  pub total : lapped net room .total ≡ 256 + nodes net
+  pub entries : lapTakers net room ≡ takers net 0 (answers (lapSteps net) net)
+  pub count : length (lapTakers net room) ≡ nodes net
+  pub made : lapSteps net ≡ 256 + 2 * nodes net
+  pub left : netAfterLap net room ≡ after (lapSteps net) net
+  -- "every later lap takes exactly n": whatever calls come after it, as in demand 3, with any number m of laps among them
+  pub later : (l : List Call) → Throughout net l (netAfterLap net room) → (m : ℕ) → steps l ≡ m * (2 * nodes net)
+      → (l′ : List Call) → Throughout net l′ (table l (netAfterLap net room)) → steps l′ ≡ 2 * nodes net
+      → LapOf net (answersOf l′ (table l (netAfterLap net room))) (nodes net) (table l′ (table l (netAfterLap net room)))
+
 abbrev pub LapCallIsTheLap : Type 0
-LapCallIsTheLap =
-    (net : List ℕ) → ((i : ℕ) → getD net i 0 < 256) → (room : ℕ) → lapNumber net room ≡ 0
-    → LapOf net (answers (lapSteps net) net) (lapped net room .total) (netAfterLap net room)
-    × (lapped net room .total ≡ 256 + nodes net) × (lapTakers net room ≡ takers net 0 (answers (lapSteps net) net))
+LapCallIsTheLap = (net : List ℕ) → ((i : ℕ) → getD net i 0 < 256) → (room : ℕ) → lapNumber net room ≡ 0 → TheLap net room
