@@ -1,18 +1,23 @@
 -- Document 01's sums of one card.
 -- Assumes nothing.
 use mathlib.Core.Path.{_≡_, refl}
-use mathlib.Core.Bool.{Bool, true, false}
-use Prim.Native.Nat.{ℕ}
-use borrow.Author.Tests.{not-true}
+use mathlib.Core.Bool.{Bool, true, false, _&&_, true≢false}
+use mathlib.Core.Logic.{inl, inr}
+use Prim.Native.Nat.{ℕ, _<_}
+use native.Mathlib.Omega.{arith}
+use lib.Dec.{eqb, leb}
+use borrow.Author.Tests.{not-true, leb-true}
 use Rattle.card.specs.declared.regs.Regs.{Regs}
+use Rattle.card.specs.declared.packets.Shape.{Shape}
 use Rattle.card.specs.declared.packets.Shape.the-variants.{Malformed}
 use Rattle.card.specs.declared.commands.Command.the-variants.{EnableTransmit, EnableReceive}
 use Rattle.card.specs.Words.{clear, has}
 use Rattle.card.specs.Flags.{AUTO-INC, RESET}
 use Rattle.card.specs.Commands.{commandOf}
 use Rattle.card.specs.Registers.{pointer, stepped, hardwareReset, configured}
-use Rattle.card.specs.Packets.{shapeOf, dataBytes}
+use Rattle.card.specs.Packets.{shapeOf, dataBytes, CanBeSent, malformed}
 use Rattle.card.specs.Events.{risenNid}
+use Rattle.card.proofs.Bools.{and-right, pick-of}
 
 -- COUNT of a short packet, whatever byte 3 is and whatever the page; of a long one
 module _ (next : ℕ) (long : Bool) where
@@ -39,6 +44,16 @@ long-4 = refl
 pub long-255 : dataBytes (shapeOf 0 255 true) ≡ 257
 unfolding shapeOf
 long-255 = refl
+
+-- the sizes of a packet whose COUNT bytes are bytes
+pub data-sizes : (count next : ℕ) (long : Bool) → count < 256 → next < 256 → malformed (shapeOf count next long) ≡ false
+    → CanBeSent (dataBytes (shapeOf count next long))
+unfolding shapeOf
+data-sizes count next long c n =
+    let P : Shape → Type 0 = λ s. malformed s ≡ false → CanBeSent (dataBytes s) in
+    pick-of P (leb 3 count) (λ t _. let b = leb-true 3 count t in inl (omega arith, omega arith))
+    (λ _. pick-of P (eqb count 0 && long && leb 4 next)
+    (λ t _. let b = leb-true 4 next (and-right (eqb count 0 && long) (leb 4 next) t) in inr (omega arith, omega arith)) (λ _ e. absurd (true≢false e)))
 
 -- the pages of two commands
 pub page-2C : commandOf 0x2c ≡ EnableReceive 3 false

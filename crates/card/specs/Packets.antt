@@ -2,7 +2,8 @@
 -- Assumes nothing.
 use mathlib.Core.Bool.{Bool, true, false, _&&_, _||_}
 use mathlib.Core.List.{List, [], _++_}
-use Prim.Native.Nat.{ℕ, _+_, _-_, _*_}
+use mathlib.Core.Logic.{_⊎_}
+use Prim.Native.Nat.{ℕ, _+_, _-_, _*_, _≤_}
 use lib.Dec.{eqb, leb, ltb}
 use lib.ListN.{length, getD, take, drop, replicate, set}
 use Rattle.card.specs.declared.packets.Shape.{Shape}
@@ -23,6 +24,10 @@ abbrev pub dataBytes : Shape → ℕ
 dataBytes Malformed = 0
 dataBytes (Short c) = 256 - c
 dataBytes (Long c) = 512 - c
+
+-- "So N is 1-253 or 257-508; 254, 255 and 256 cannot be sent"
+abbrev pub CanBeSent : ℕ → Type 0
+CanBeSent n = ((1 ≤ n) × (n ≤ 253)) ⊎ ((257 ≤ n) × (n ≤ 508))
 
 -- the data stand "at page offsets COUNT to 255", or "at COUNT to 511"
 abbrev pub dataAt : Shape → ℕ

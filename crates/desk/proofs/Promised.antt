@@ -1,4 +1,4 @@
--- Refused calls change nothing, no call changes another row, and no second outcome fits a statement.
+-- Refused calls change nothing, no call changes another row, a fault that meets nothing does nothing, the sizes of packets, and no second outcome fits a statement.
 -- Assumes nothing.
 use mathlib.Core.Path.{_≡_, refl, sym, _∙_}
 use mathlib.Core.List.{List, []}
@@ -8,12 +8,15 @@ use lib.ListN.{length, drop}
 use borrow.Author.Tests.{ne-eqb}
 use Rattle.line.proofs.Refused.{read-refused, write-refused, reset-refused, timer-refused, interrupt-refused, data-refused, fresh-refused, step-refused}
 use Rattle.line.proofs.Alike.{bytes-rams}
-use Rattle.line.proofs.Others.{read-only, write-only, reset-only, timer-only}
+use Rattle.line.proofs.Others.{read-only, read-header, write-only, reset-only, timer-only}
+use Rattle.line.proofs.Frames.{frame-step}
 use Rattle.line.proofs.Bystanding.{bystands}
+use Rattle.line.proofs.Faults.{idle-fault}
+use Rattle.card.proofs.CardSums.{data-sizes}
 use Rattle.desk.specs.declared.laps.Taker.{Taker}
 use Rattle.desk.specs.Load.{loadNumber, netAfterLoad}
 use Rattle.desk.specs.Lap.{lapNumber, lapped, netAfterLap, lapTakers, listAfterLap}
-use Rattle.desk.specs.Promises.{Refused, RefusalsChangeNothing, NoOtherRow, Only, Only2, OneOutcome}
+use Rattle.desk.specs.Promises.{Refused, RefusalsChangeNothing, NoOtherRow, IdleFaults, Sizes, Only, Only2, OneOutcome}
 
 load-refused : (order net : List ℕ) → Refused (loadNumber order net) → netAfterLoad order net ≡ net
 unfolding netAfterLoad
@@ -45,11 +48,19 @@ refusals-change-nothing = record {
 pub no-other-row : NoOtherRow
 no-other-row = record {
   read = read-only;
+  read-header = read-header;
   write = write-only;
   reset = reset-only;
   timer = timer-only;
-  step-of = λ net b s. bystands net s (bytes-rams net s b);
+  step-frame = λ net b s. frame-step net s (bytes-rams net s b);
+  step-row = λ net b s. bystands net s (bytes-rams net s b);
 }
+
+pub idle-faults : IdleFaults
+idle-faults = idle-fault
+
+pub sizes : Sizes
+sizes = data-sizes
 
 -- ---- no second outcome fits
 only : {A : Type 0} (x : A) → Only x

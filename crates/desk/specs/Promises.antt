@@ -1,15 +1,16 @@
 -- What holds of every public call.
 -- Assumes nothing.
 use mathlib.Core.Path.{_≡_}
-use mathlib.Core.Bool.{true, false}
+use mathlib.Core.Bool.{Bool, true, false}
 use mathlib.Core.List.{List, []}
-use Prim.Native.Nat.{ℕ, _+_, _*_, _<_}
+use Prim.Native.Nat.{ℕ, _+_, _*_, _≤_, _<_}
 use lib.ListN.{length, getD}
+use Rattle.card.specs.Packets.{shapeOf, dataBytes, CanBeSent, malformed}
 use Rattle.card.specs.Events.{receiving}
 use Rattle.card.specs.Bystander.{Bystander}
-use Rattle.line.specs.Network.{rows, phase, holder, TAKEN, rowAt, regsAt, shape, OnlyRow}
+use Rattle.line.specs.Network.{headerBytes, rows, phase, holder, TAKEN, rowAt, regsAt, shape, SameFrame, OnlyRow}
 use Rattle.line.specs.Calls.{placeNumber, netReading, netAfterRead, netWriteNumber, netAfterWrite, netAfterReset, timerNumber, netAfterTimer, netInterrupt, netData, netDataNumber, freshNumber, netAfterFresh}
-use Rattle.line.specs.Step.{step, answerNumber, answerValue}
+use Rattle.line.specs.Step.{step, answerNumber, answerValue, meets}
 use Rattle.desk.specs.declared.laps.Taker.{Taker}
 use Rattle.desk.specs.Order.{records, orderFits, nameAt}
 use Rattle.desk.specs.Load.{loadNumber, netAfterLoad}
@@ -33,15 +34,26 @@ pub record RefusalsChangeNothing : Type 0 where
   pub walk : (net : List ℕ) (room : ℕ) → Refused (lapNumber net room) → (lapped net room .total ≡ 0) × ((netAfterLap net room ≡ net) × (lapTakers net room ≡ []))
   pub lap : (net : List ℕ) (list : List Taker) → Refused (lapNumber net (length list)) → listAfterLap net list ≡ list
 
--- ---- "no other byte moves": a call that names a row changes, but for phase and holder, that row alone; and a step changes of a row that is not the
--- holder in TAKEN, and stores no packet (its RI stays), the status, the diagnostic status and the NID alone
+-- ---- demand 2, "no other byte moves": a call that names a row changes, but for phase and holder, that row alone, and a read leaves these too; a step leaves
+-- the length and, but for phase and holder, the header, and changes of a row that is not the holder in TAKEN, and stores no packet (its RI stays), the status,
+-- the diagnostic status and the NID alone
 pub record NoOtherRow : Type 0 where
   pub read : (net : List ℕ) (k g : ℕ) → OnlyRow net (netAfterRead net k g) k
+  pub read-header : (net : List ℕ) (k g i : ℕ) → i < headerBytes → getD (netAfterRead net k g) i 0 ≡ getD net i 0
   pub write : (net : List ℕ) (k g v : ℕ) → OnlyRow net (netAfterWrite net k g v) k
   pub reset : (net : List ℕ) (k : ℕ) → OnlyRow net (netAfterReset net k) k
   pub timer : (net : List ℕ) (k : ℕ) → OnlyRow net (netAfterTimer net k) k
-  pub step-of : (net : List ℕ) → ((i : ℕ) → getD net i 0 < 256) → shape net ≡ true → (fault j : ℕ) → j < rows net → (phase net ≡ TAKEN → j ≡ holder net → ⊥)
+  pub step-frame : (net : List ℕ) → ((i : ℕ) → getD net i 0 < 256) → shape net ≡ true → (fault : ℕ) → SameFrame net (step net fault .after)
+  pub step-row : (net : List ℕ) → ((i : ℕ) → getD net i 0 < 256) → shape net ≡ true → (fault j : ℕ) → j < rows net → (phase net ≡ TAKEN → j ≡ holder net → ⊥)
       → receiving (regsAt (step net fault .after) j) ≡ receiving (regsAt net j) → Bystander (rowAt net j) (rowAt (step net fault .after) j)
+
+-- ---- "A fault that meets no message of its kind does nothing"
+abbrev pub IdleFaults : Type 0
+IdleFaults = (net : List ℕ) (fault : ℕ) → fault ≤ 3 → meets fault (step net 0 .answer) ≡ false → step net fault ≡ step net 0
+
+-- ---- "So N is 1-253 or 257-508; 254, 255 and 256 cannot be sent": of the COUNT bytes, and whether the page may be long
+abbrev pub Sizes : Type 0
+Sizes = (count next : ℕ) (long : Bool) → count < 256 → next < 256 → malformed (shapeOf count next long) ≡ false → CanBeSent (dataBytes (shapeOf count next long))
 
 -- ---- "no second outcome fits": a statement that gives an answer by one equation, and what is left in the lent bytes by another
 abbrev pub Only : {A : Type 0} → A → Type 0
@@ -50,7 +62,7 @@ Only {A} x = (r r′ : A) → r ≡ x → r′ ≡ x → r ≡ r′
 abbrev pub Only2 : {A B : Type 0} → A → B → Type 0
 Only2 {A} {B} x y = (r r′ : A) (a a′ : B) → (r ≡ x) × (a ≡ y) → (r′ ≡ x) × (a′ ≡ y) → (r ≡ r′) × (a ≡ a′)
 
--- for each public function, what its `ensures` say; of `laps::walk` the entries past n are not fixed
+-- for each entry point, what its `ensures` say; of `laps::walk` the entries past n are not fixed
 pub record OneOutcome : Type 0 where
   pub shape-of : (net : List ℕ) → Only (shape net)
   pub fresh : (net : List ℕ) (n : ℕ) → Only2 (freshNumber net n) (netAfterFresh net n)

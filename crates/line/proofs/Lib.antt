@@ -36,3 +36,5 @@ pub mod Refused
 pub mod Others
 pub mod Watches
 pub mod Bystanding
+pub mod Faults
+pub mod Frames

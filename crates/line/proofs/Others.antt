@@ -1,20 +1,22 @@
 -- A call that names a row changes no other row, whatever network it is given.
 -- Assumes nothing.
-use mathlib.Core.Path.{_≡_, refl}
+use mathlib.Core.Path.{_≡_, refl, sym, _∙_}
 use mathlib.Core.Bool.{true, false, not, false≢true}
 use mathlib.Core.List.{List}
 use mathlib.Core.Logic.{⊎-elim}
-use mathlib.Core.Path.{sym, _∙_}
 use Prim.Native.Nat.{ℕ, _<_}
 use native.Mathlib.Omega.{arith}
 use lib.Dec.{eqb, leb, ltb, lit<}
-use borrow.Author.Tests.{ne-eqb, ltb-true, ltb-false, leb-false, not-false}
+use lib.ListN.{getD}
+use borrow.Author.Tests.{eqb-true, ne-eqb, ltb-true, ltb-false, leb-false, not-false}
 use Rattle.card.specs.Numbers.{placed}
-use Rattle.card.proofs.Bools.{cases}
+use Rattle.card.proofs.Bools.{cases, pick-of}
+use Rattle.card.proofs.Stays.{length-read}
 use Rattle.card.proofs.Order.{none-holds}
-use Rattle.line.specs.Network.{rows, onLineAt, shape, OnlyRow}
+use Rattle.line.specs.Network.{headerBytes, rows, rowAt, onLineAt, shape, OnlyRow}
 use Rattle.line.specs.Calls.{placeNumber, netAfterRead, netWriteNumber, netAfterWrite, netAfterReset, offLine, timerNumber, netAfterTimer}
-use Rattle.line.proofs.Shapes.{shape-within}
+use Rattle.line.proofs.Networks.{setRow-header}
+use Rattle.line.proofs.Shapes.{shape-within, shape-row-length}
 use Rattle.line.proofs.Placed.{at-shape, at-row}
 use Rattle.line.proofs.Refused.{write-refused, reset-refused, timer-refused}
 use Rattle.line.proofs.Beside.{Beside, read-beside, write-beside, reset-beside, timer-beside}
@@ -25,10 +27,10 @@ module _ (net : List ℕ) (k : ℕ) where
   There = (shape net ≡ true) × (k < rows net)
 
   only-same : OnlyRow net net k
-  only-same = record { size = refl; header = λ i h x y. refl; others = λ j h n. refl }
+  only-same = record { frame = record { size = refl; header = λ i h x y. refl }; others = λ j h n. refl }
 
   only-there : {new : List ℕ} → (s : shape net ≡ true) → Beside net new k → OnlyRow net new k
-  only-there s b = record { size = b .long; header = b .header; others = λ j h n. b .others j n (shape-within net s j h) }
+  only-there s b = record { frame = record { size = b .long; header = b .header }; others = λ j h n. b .others j n (shape-within net s j h) }
 
   only-of : {new : List ℕ} → ((There → ⊥) → new ≡ net) → ((s : shape net ≡ true) → k < rows net → Beside net new k) → OnlyRow net new k
   only-of {new} refused done =
@@ -50,6 +52,15 @@ module _ (net : List ℕ) (k : ℕ) where
   pub read-only : (g : ℕ) → OnlyRow net (netAfterRead net k g) k
   unfolding netAfterRead
   read-only g = only-of (λ n. rw (ne-eqb _ _ (unplaced n))) (λ s l. read-beside net s k l g)
+
+  -- which leaves phase and holder too
+  pub read-header : (g i : ℕ) → i < headerBytes → getD (netAfterRead net k g) i 0 ≡ getD net i 0
+  unfolding netAfterRead
+  read-header g i h =
+      pick-of (λ (x : List ℕ). getD x i 0 ≡ getD net i 0) (eqb (placeNumber net k) 0)
+      (λ z. let p = at-shape net k (placeNumber net k) refl (eqb-true _ _ z) in
+      let l = at-row net k (placeNumber net k) refl (eqb-true _ _ z) in
+      setRow-header net k _ (shape-within net p k l) (length-read (rowAt net k) (shape-row-length net p k l) g) i h) (λ _. refl)
 
   pub write-only : (g v : ℕ) → OnlyRow net (netAfterWrite net k g v) k
   unfolding netWriteNumber

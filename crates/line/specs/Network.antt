@@ -110,8 +110,12 @@ pub record SameNodes (net new : List ℕ) : Type 0 where
   pub online : (k : ℕ) → k < rows net → onLineAt new k ≡ onLineAt net k
   pub id : (k : ℕ) → k < rows net → onLineAt net k ≡ true → regsAt new k .id ≡ regsAt net k .id
 
--- ---- two networks that are the same but for row k, and for phase and holder
-pub record OnlyRow (net new : List ℕ) (k : ℕ) : Type 0 where
+-- ---- two networks of one length, whose headers are the same but for phase and holder
+pub record SameFrame (net new : List ℕ) : Type 0 where
   pub size : length new ≡ length net
   pub header : (i : ℕ) → i < headerBytes → (i ≡ 4 → ⊥) → (i ≡ 5 → ⊥) → getD new i 0 ≡ getD net i 0
+
+-- and whose rows are the same but for row k
+pub record OnlyRow (net new : List ℕ) (k : ℕ) : Type 0 where
+  pub frame : SameFrame net new
   pub others : (j : ℕ) → j < rows net → (j ≡ k → ⊥) → rowAt new j ≡ rowAt net j
