@@ -1,4 +1,4 @@
--- Document 01, "Registers": a register access to a row's bytes. "A refusal returns 0 beside its number, and no lent byte changes."
+-- Document 01, "Registers": a register access to a row's bytes. "A refusal returns 0 .. beside its number, and no lent byte .. changes."
 -- Assumes nothing.
 use mathlib.Core.Bool.{Bool}
 use mathlib.Core.List.{List, _++_}

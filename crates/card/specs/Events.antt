@@ -19,7 +19,8 @@ burst g = with-diagnostic (raise MYRECON (g .diagnostic)) g
 unfoldable pub recovered : Regs → Regs
 recovered g = with-status (raiseIf (awake g) RECON (g .status)) (with-nid (pick (onLine g) (g .id) (g .nid)) g)
 
--- "Other awake rows get RCVACT and TOKEN" of an invitation; "RCVACT only" of another message
+-- an invitation: "Other awake rows get RCVACT and TOKEN"; one that fault 3 destroys: "RCVACT only"; "An enquiry or packet sets RCVACT in the other awake
+-- rows, and in the holder if ACK or NAK answered"
 unfoldable pub heard : Regs → Bool → Regs
 heard g token = with-diagnostic (raiseIf (awake g && token) TOKEN (raiseIf (awake g) RCVACT (g .diagnostic))) g
 
@@ -48,7 +49,8 @@ receiveCancelled g = pick (clear CANCEL (g .receive)) g (received g)
 unfoldable pub cancelled : Regs → Regs
 cancelled g = receiveCancelled (transmitCancelled g)
 
--- "TA = 1 and TMA = 1", or "TA = 1, TMA = 0"; byte 13 zero
+-- a transmit ends: "TA = 1 and TMA = 1", or "TA = 1, TMA = 0"; byte 13 zero. Where 01 says "TA = 1" alone (Malformed, Broadcast, NoAnswer) TMA is 0 already:
+-- TA was 0
 unfoldable pub sent : Regs → Bool → Regs
 sent g acknowledged = with-status (raise TA (pick acknowledged (raise TMA (g .status)) (lower TMA (g .status)))) (with-transmit 0 g)
 

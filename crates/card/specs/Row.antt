@@ -25,7 +25,7 @@ abbrev pub mark : List ℕ
 mark = 0x4e ∷ 0x44 ∷ []
 
 -- "2 node ID; 3 status; 4 diagnostic status; 5 interrupt mask; 6 configuration; 7 setup; 8 tentative ID; 9 NID; 10 pointer high (0-3);
--- 11 pointer low; 12 mode; 13 transmit; 14 receive; 15 long packets 0 or 1"
+-- 11 pointer low; 12 mode ..; 13 transmit ..; 14 receive ..; 15 long packets 0 or 1"
 unfoldable pub regsOf : List ℕ → Regs
 regsOf r = record {
   id = getD r 2 0;
@@ -75,7 +75,7 @@ named g =
     ∷ only configurationBits (g .configuration) ∷ only setupBits (g .setup) ∷ only LOW2 (g .high) ∷ only modeBits (g .mode)
     ∷ only transmitBits (g .transmit) ∷ only receiveBits (g .receive) ∷ only 1 (g .long) ∷ []
 
--- "TA = 1 only with byte 13 zero; RI = 1 only with byte 14 zero; TMA = 1 only with TA = 1;
+-- "TA = 1 only with byte 13 zero; RI = 1 only with byte 14 zero; TMA = 1 only with TA = 1; ..
 -- with long packets 1, an enabled page (TA = 0, RI = 0) is even"
 abbrev pub agree : Regs → List Bool
 agree g =

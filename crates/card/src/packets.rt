@@ -1,6 +1,6 @@
 // Document 01, "Packets": the shape of a page, the reader, and the packet read out and stored.
 ghost use mathlib.Core.Path.{_≡_};
-ghost use Prim.Native.Nat.{_+_, _*_, _≤_, _<_};
+ghost use Prim.Native.Nat.{_+_, _≤_, _<_};
 ghost use lib.ListN.{length};
 ghost use Rattle.card.specs.Row.{rowBytes};
 ghost use Rattle.card.specs.Packets.{shapeOf, dataBytes, dataAt, headBytes, pageBytes, pageAt, malformed, pageShape, destination, dataNumber, pageData, packetAt, stored, stamped};

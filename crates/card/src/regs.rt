@@ -1,6 +1,5 @@
 // Document 01, "Registers": the registers of a card by value. Each method hands them back.
 ghost use mathlib.Core.Path.{_≡_};
-ghost use Prim.Native.Nat.{_<_};
 ghost use Rattle.card.specs.Row.{awake, onLine, fit};
 ghost use Rattle.card.specs.Registers.{sub, pointer, stepped, seventh, readValue, afterRead, hardwareReset, configured, interrupt, commanded, writesId, seventhWritten, afterWrite};
 ghost use Rattle.card.specs.Refusals.{noRegister, badValue, busy, oddPage, readCases, writeCases};

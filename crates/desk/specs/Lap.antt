@@ -89,7 +89,7 @@ lapNumber net room =
 abbrev pub runs : List ℕ → ℕ → Bool
 runs net room = eqb (lapNumber net room) 0
 
--- "It answers the total"; "a refusal returns 0 beside its number"
+-- "It answers the total"; "a refusal returns 0 .. beside its number"
 unfoldable pub lapped : List ℕ → ℕ → Lapped
 lapped net room = record { number = lapNumber net room; total = pick (runs net room) (invitations (answers (lapSteps net) net)) 0 }
 

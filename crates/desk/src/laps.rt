@@ -2,7 +2,7 @@
 ghost use mathlib.Core.Path.{_≡_};
 ghost use mathlib.Core.Bool.{true};
 ghost use mathlib.Core.List.{_++_};
-ghost use Prim.Native.Nat.{_≤_, _<_};
+ghost use Prim.Native.Nat.{_≤_};
 ghost use lib.ListN.{length, take, drop};
 ghost use Rattle.line.specs.Network.{rowLimit, LOST, rowStart, phase, shape};
 ghost use Rattle.desk.specs.Lap.{online, nodes, invitation, passed, invitations, takers, answers, after, lapSteps, lapNumber, lapped, netAfterLap, lapTakers, listAfterLap};

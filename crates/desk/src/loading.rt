@@ -14,21 +14,38 @@ use card::numbers::Cases;
 use line::calls::fresh;
 use line::calls::write_on;
 
+// The registers that are written.
+const COMMAND: usize = 1;
+
+const CONFIGURATION: usize = 6;
+
+const SEVENTH: usize = 7;
+
+// Off line, with the node ID as register 7; and on line.
+const NODE_ID: u8 = 0x19;
+
+const ON_LINE: u8 = 0x38;
+
+// Long packets; receive in page 0, broadcasts too.
+const LONG_PACKETS: u8 = 0x0d;
+
+const ENABLE_RECEIVE: u8 = 0x84;
+
 // A row's registers are written, in 01's order. None of the writes refuses a row that was reset.
 fn load_row(net: &mut [u8], k: usize, id: u8, flags: u8)
     requires { ⌜ shape (now net) ≡ true ⌝ }
     requires { ⌜ k < rows (now net) ⌝ }
     ensures { λ _. ⌜ now (net .exit) ≡ loadedRow (now (net .entry)) k id flags ⌝ }
 {
-    write_on(net, k, 6, 0x19);
-    write_on(net, k, 7, id);
+    write_on(net, k, CONFIGURATION, NODE_ID);
+    write_on(net, k, SEVENTH, id);
     if flags & LONG != 0 {
-        write_on(net, k, 1, 0x0d);
+        write_on(net, k, COMMAND, LONG_PACKETS);
     }
     if flags & RECEIVE != 0 {
-        write_on(net, k, 1, 0x84);
+        write_on(net, k, COMMAND, ENABLE_RECEIVE);
     }
-    write_on(net, k, 6, 0x38);
+    write_on(net, k, CONFIGURATION, ON_LINE);
 }
 
 // The network is made anew from the order, a row for each record: row k carries record k's ID.

@@ -1,11 +1,11 @@
 // Document 01, "Order forms and the lap": the order form.
 ghost use mathlib.Core.Path.{_≡_};
-ghost use Prim.Native.Nat.{_+_, _*_, _≤_, _<_};
+ghost use Prim.Native.Nat.{_+_, _*_, _≤_};
 ghost use lib.ListN.{length};
-ghost use Rattle.desk.specs.Order.{recordBytes, records, recordAt, idAt, flagsOf, printables, recordFits, recordsFit, idsDiffer, orderFits, spaces, nameAt};
+ghost use Rattle.desk.specs.Order.{recordBytes, records, recordAt, idAt, flagsOf, printables, recordFits, recordsFit, idsDiffer, orderFits, nameAt};
 use line::network::ROWS;
 
-const RECORD: usize = 16;
+pub const RECORD: usize = 16;
 
 // The fixed bytes that each record begins with.
 const MARK: [u8; 2] = *b"\x4f\x52";

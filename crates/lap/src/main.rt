@@ -1,11 +1,13 @@
 // The program `lap` (document 01, "Order forms and the lap"): reads an order on standard input, loads it, runs a lap
 // and prints the takers in the order in which they took the token; or the refusal's number.
 ghost use lib.ListN.{length};
-ghost use Prim.Native.Nat.{_≤_};
+ghost use Prim.Native.Nat.{_+_, _*_, _≤_};
 ghost use Rattle.line.specs.Network.{rowLimit, rowStart};
+ghost use Rattle.desk.specs.Order.{recordBytes};
 use card::row::ROW;
 use desk::laps::Taker;
 use desk::laps::Walked;
+use desk::orders::RECORD;
 use desk::orders::name_at;
 use desk::orders::records;
 use libc::STDIN_FILENO;
@@ -13,7 +15,7 @@ use line::network::HEADER;
 use line::network::ROWS;
 
 // A byte more than the longest order, so that a longer one is seen to be too long.
-const ORDER: usize = 961;
+const ORDER: usize = RECORD * ROWS + 1;
 
 const NET: usize = HEADER + ROW * ROWS;
 
@@ -49,7 +51,7 @@ fn takers(order: &[u8], w: Walked)
 
 // The order is loaded into a network of its length, which is lent, and its lap is run.
 fn answer(order: &[u8], net: &mut [u8])
-    requires { ⌜ length (now order) ≤ 961 ⌝ }
+    requires { ⌜ length (now order) ≤ recordBytes * rowLimit + 1 ⌝ }
     requires { ⌜ rowStart rowLimit ≤ length (now net) ⌝ }
 {
     let size = HEADER + ROW * records(order);

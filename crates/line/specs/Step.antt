@@ -34,7 +34,8 @@ lostTurn net =
 abbrev pub invited : List ℕ → ℕ
 invited net = regsAt net (holder net) .nid
 
--- "If another on-line row has that ID it holds"
+-- "If another on-line row has that ID it holds, phase TAKEN: Passed(row) .. Else NID rises by one, 255 to 0: Unanswered(the ID invited). Fault 3: other awake
+-- rows get RCVACT only, phase LOST: TokenLost"
 abbrev pub taker : List ℕ → ℕ
 taker net = nodeOf net (invited net) (holder net) (rows net)
 

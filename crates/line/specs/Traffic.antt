@@ -67,7 +67,8 @@ wentOut net h p fault to broadcast =
     pick (damaged fault) (happened (stampedNet net h p) (Message h false))
     (carried (happened (stampedNet net h p) (Message h false)) h to broadcast (packetAt (rowAt (stampedNet net h p) h) p))
 
--- ---- "TAKEN: cancels asked in the holder's row take effect first .. If TA is then 0 the holder tries its packet"
+-- ---- TAKEN, the holder's packet
+-- "DID 0, Broadcast: TA = 1, every other awake row, on line or not, with RI = 0 and broadcasts wanted stores it"
 unfoldable pub broadcastTurn : List ℕ → ℕ → ℕ → ℕ → Turn Outcome
 broadcastTurn net h p fault = record { answer = Broadcast; after = onRow (wentOut net h p fault (rows net) true) h (λ g. sent g false) }
 
@@ -96,7 +97,7 @@ tryTurn net h p fault =
     (pick (eqb (destination (rowAt net h) p) 0) (broadcastTurn net h p fault)
     (enquiryTurn net h p fault (nodeOf net (destination (rowAt net h) p) h (rows net))))
 
--- "Nothing (TA already 1)"
+-- "cancels asked in the holder's row take effect first .. If TA is then 0 the holder tries its packet"; "Nothing (TA already 1)"
 unfoldable pub takenTurn : List ℕ → ℕ → ℕ → Turn Outcome
 takenTurn net h fault =
     pick (transmitting (regsAt (onRow net h cancelled) h)) (tryTurn (onRow net h cancelled) h (transmitPage (regsAt (onRow net h cancelled) h)) fault)
