@@ -24,3 +24,4 @@ pub mod Touched
 pub mod CardSums
 pub mod Refused
 pub mod Bystanders
+pub mod Ends

@@ -11,12 +11,13 @@ use Rattle.line.proofs.Alike.{bytes-rams}
 use Rattle.line.proofs.Others.{read-only, read-header, write-only, reset-only, timer-only}
 use Rattle.line.proofs.Frames.{frame-step}
 use Rattle.line.proofs.Bystanding.{bystands}
+use Rattle.line.proofs.HolderLeft.{holder-left}
 use Rattle.line.proofs.Faults.{idle-fault}
 use Rattle.card.proofs.CardSums.{data-sizes}
 use Rattle.desk.specs.declared.laps.Taker.{Taker}
 use Rattle.desk.specs.Load.{loadNumber, netAfterLoad}
 use Rattle.desk.specs.Lap.{lapNumber, lapped, netAfterLap, lapTakers, listAfterLap}
-use Rattle.desk.specs.Promises.{Refused, RefusalsChangeNothing, NoOtherRow, IdleFaults, Sizes, Only, Only2, OneOutcome}
+use Rattle.desk.specs.Promises.{Refused, RefusalsChangeNothing, NoOtherRow, OutcomesSay, IdleFaults, Sizes, Only, Only2, OneOutcome}
 
 load-refused : (order net : List ℕ) → Refused (loadNumber order net) → netAfterLoad order net ≡ net
 unfolding netAfterLoad
@@ -55,6 +56,9 @@ no-other-row = record {
   step-frame = λ net b s. frame-step net s (bytes-rams net s b);
   step-row = λ net b s. bystands net s (bytes-rams net s b);
 }
+
+pub outcomes-say : OutcomesSay
+outcomes-say net b s = holder-left net s (bytes-rams net s b)
 
 pub idle-faults : IdleFaults
 idle-faults = idle-fault

@@ -8,9 +8,12 @@ use lib.ListN.{length, getD}
 use Rattle.card.specs.Packets.{shapeOf, dataBytes, CanBeSent, malformed}
 use Rattle.card.specs.Events.{receiving}
 use Rattle.card.specs.Bystander.{Bystander}
+use Rattle.line.specs.declared.traffic.Outcome.{Outcome}
+use Rattle.line.specs.declared.step.Answer.the-variants.{Held}
 use Rattle.line.specs.Network.{headerBytes, rows, phase, holder, TAKEN, rowAt, regsAt, shape, SameFrame, OnlyRow}
 use Rattle.line.specs.Calls.{placeNumber, netReading, netAfterRead, netWriteNumber, netAfterWrite, netAfterReset, timerNumber, netAfterTimer, netInterrupt, netData, netDataNumber, freshNumber, netAfterFresh}
-use Rattle.line.specs.Step.{step, answerNumber, answerValue, meets}
+use Rattle.line.specs.Step.{step, answerNumber, answerValue}
+use Rattle.line.specs.Outcomes.{HolderLeft, meets}
 use Rattle.desk.specs.declared.laps.Taker.{Taker}
 use Rattle.desk.specs.Order.{records, orderFits, nameAt}
 use Rattle.desk.specs.Load.{loadNumber, netAfterLoad}
@@ -46,6 +49,12 @@ pub record NoOtherRow : Type 0 where
   pub step-frame : (net : List ℕ) → ((i : ℕ) → getD net i 0 < 256) → shape net ≡ true → (fault : ℕ) → SameFrame net (step net fault .after)
   pub step-row : (net : List ℕ) → ((i : ℕ) → getD net i 0 < 256) → shape net ≡ true → (fault j : ℕ) → j < rows net → (phase net ≡ TAKEN → j ≡ holder net → ⊥)
       → receiving (regsAt (step net fault .after) j) ≡ receiving (regsAt net j) → Bystander (rowAt net j) (rowAt (step net fault .after) j)
+
+-- ---- the values that document 01 gives for each outcome: the holder's TA, TMA and byte 13 after a step that answers Held
+abbrev pub OutcomesSay : Type 0
+OutcomesSay =
+    (net : List ℕ) → ((i : ℕ) → getD net i 0 < 256) → shape net ≡ true → phase net ≡ TAKEN → (fault : ℕ) (o : Outcome) → step net fault .answer ≡ Held o
+    → HolderLeft (regsAt net (holder net)) (regsAt (step net fault .after) (holder net)) o
 
 -- ---- "A fault that meets no message of its kind does nothing"
 abbrev pub IdleFaults : Type 0

@@ -17,7 +17,8 @@ use Rattle.card.specs.Events.{cancelled, transmitting, receiving, transmitPage,
 use Rattle.card.proofs.Bools.{cases, pick-of}
 use Rattle.line.specs.Network.{rows, phase, holder, LOST, PASS, rowAt, regsAt, nodeOf, shape}
 use Rattle.line.specs.Traffic.{Turn, onRow, wentOut, broadcastTurn, packetTurn, enquiryTurn, tryTurn, takenTurn}
-use Rattle.line.specs.Step.{taker, passTurn, held, stepTurn, stepNumber, step, meets}
+use Rattle.line.specs.Step.{taker, passTurn, held, stepTurn, stepNumber, step}
+use Rattle.line.specs.Outcomes.{meets}
 
 -- what holds of both pairs of choices holds of the pair that is chosen
 pick-both : {A : Type 0} (P : A → A → Type 0) {x y u v : A} (b : Bool) → P x u → P y v → P (pick b x y) (pick b u v)

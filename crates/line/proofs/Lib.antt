@@ -38,3 +38,4 @@ pub mod Watches
 pub mod Bystanding
 pub mod Faults
 pub mod Frames
+pub mod HolderLeft

@@ -3,3 +3,4 @@ pub mod Network
 pub mod Calls
 pub mod Traffic
 pub mod Step
+pub mod Outcomes

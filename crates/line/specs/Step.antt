@@ -1,13 +1,12 @@
 -- Document 01, "One line step": LOST, PASS, and the step itself.
 -- Assumes nothing.
-use mathlib.Core.Bool.{Bool, true, false, not, _&&_, _||_}
+use mathlib.Core.Bool.{Bool, true, false, not, _&&_}
 use mathlib.Core.List.{List}
 use Prim.Native.Nat.{ℕ}
 use lib.Dec.{eqb, ltb}
 use Rattle.card.specs.declared.numbers.Cases.{Cases}
 use Rattle.line.specs.declared.passes.Event.the-variants.{Recovery, Message, Taken}
 use Rattle.line.specs.declared.traffic.Outcome.{Outcome}
-use Rattle.line.specs.declared.traffic.Outcome.the-variants.{Nothing, Malformed, Broadcast, NoAnswer, Nak, Delivered, Unacknowledged}
 use Rattle.line.specs.declared.step.Answer.{Answer}
 use Rattle.line.specs.declared.step.Answer.the-variants.{Refused, Quiet, Recovered, Passed, Unanswered, TokenLost, Held}
 use Rattle.card.specs.Words.{pick}
@@ -84,34 +83,3 @@ answerValue (Passed r) = r
 answerValue (Unanswered i) = i
 answerValue TokenLost = 0
 answerValue (Held o) = 0
-
--- ---- "A fault that meets no message of its kind does nothing": the messages of a fault-free step, by what it answers
--- 1, a packet
-abbrev pub packetGoes : Outcome → Bool
-packetGoes Nothing = false
-packetGoes Malformed = false
-packetGoes Broadcast = true
-packetGoes NoAnswer = false
-packetGoes Nak = false
-packetGoes Delivered = true
-packetGoes Unacknowledged = true
-
--- 2, a final ACK
-abbrev pub ackComes : Outcome → Bool
-ackComes Nothing = false
-ackComes Malformed = false
-ackComes Broadcast = false
-ackComes NoAnswer = false
-ackComes Nak = false
-ackComes Delivered = true
-ackComes Unacknowledged = false
-
--- 3, an invitation
-abbrev pub meets : ℕ → Answer → Bool
-meets fault (Refused n) = false
-meets fault Quiet = false
-meets fault (Recovered r) = false
-meets fault (Passed r) = eqb fault 3
-meets fault (Unanswered i) = eqb fault 3
-meets fault TokenLost = false
-meets fault (Held o) = eqb fault 1 && packetGoes o || eqb fault 2 && ackComes o
