@@ -16,16 +16,16 @@ use Rattle.words.specs.Hex.{hexFits}
 use Rattle.bench.specs.declared.requests.Word.{Word}
 use Rattle.bench.specs.declared.requests.Word.the-variants.{Unknown, Size, Poke, Peek, Sum, Check, Fresh, Load, Read, Write, Reset, Timer, Interrupt, Step, Data, Lap, Show, Help}
 use Rattle.bench.specs.declared.requests.Request.{Request}
-use Rattle.bench.specs.Requests.{formOf, argument, made, wordOf, askedOf, asked}
+use Rattle.bench.specs.Requests.{NET, LIST, formOf, argument, made, wordOf, askedOf, asked}
 use Rattle.bench.specs.Turns.{netAfter, sizeAfter, netAfterLine, sizeAfterLine}
 
-module _ (size : ℕ) (h : size ≤ 66400) where
+module _ (size : ℕ) (h : size ≤ NET) where
   abbrev Within : Request → Type 0
-  Within r = sizeAfter r size ≤ 66400
+  Within r = sizeAfter r size ≤ NET
 
   made-within : (w : Word) (a b c : ℕ) → Within (made w a b c)
   made-within Unknown a b c = h
-  made-within Size a b c = pick-of Within (ltb 66400 a) (λ t. h) (λ f. ltb-false 66400 a f)
+  made-within Size a b c = pick-of Within (ltb NET a) (λ t. h) (λ f. ltb-false NET a f)
   made-within Poke a b c = h
   made-within Peek a b c = h
   made-within Sum a b c = h
@@ -39,7 +39,7 @@ module _ (size : ℕ) (h : size ≤ 66400) where
   made-within Interrupt a b c = h
   made-within Step a b c = h
   made-within Data a b c = h
-  made-within Lap a b c = pick-of Within (ltb 70 a) (λ t. h) (λ f. h)
+  made-within Lap a b c = pick-of Within (ltb LIST a) (λ t. h) (λ f. h)
   made-within Show a b c = h
   made-within Help a b c = h
 
@@ -56,12 +56,12 @@ module _ (size : ℕ) (h : size ≤ 66400) where
       (λ f. made-within w (argument line 1 n .value) (argument line 2 n .value) (argument line 3 n .value))))))
 
   module _ (line net : List ℕ) where
-    pub long-line : (b : Bool) → b ≡ true → ((size ≡ sizeAfterLine b line size) × (size ≤ 66400)) × (net ≡ netAfterLine b line size net)
+    pub long-line : (b : Bool) → b ≡ true → ((size ≡ sizeAfterLine b line size) × (size ≤ NET)) × (net ≡ netAfterLine b line size net)
     unfolding sizeAfterLine netAfterLine
     long-line b t = ((rw t, h), rw t)
 
     pub answered-line : (b : Bool) → b ≡ false → (r : Request) → r ≡ asked line → (m : List ℕ) → m ≡ netAfter r line (midOf 0 (size - 0) net)
-        → (n : ℕ) → n ≡ sizeAfter r size → ((n ≡ sizeAfterLine b line size) × (n ≤ 66400)) × (putMid 0 (size - 0) net m ≡ netAfterLine b line size net)
+        → (n : ℕ) → n ≡ sizeAfter r size → ((n ≡ sizeAfterLine b line size) × (n ≤ NET)) × (putMid 0 (size - 0) net m ≡ netAfterLine b line size net)
     unfolding sizeAfterLine netAfterLine
     answered-line b f r e m g n i =
         let z : size - 0 ≡ size = omega arith in

@@ -1,5 +1,6 @@
 pub mod Asked
 pub mod Fnv
+pub mod Checks
 pub mod Pokes
 pub mod Values
 pub mod Moves

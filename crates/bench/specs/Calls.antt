@@ -1,16 +1,20 @@
 -- The calls that the line and the desk do not have as they are.
 -- Assumes nothing.
-use mathlib.Core.Bool.{Bool, true}
+use mathlib.Core.Bool.{Bool, true, not}
 use mathlib.Core.List.{List, _++_}
 use Prim.Native.Nat.{ℕ, _+_}
 use lib.Dec.{eqb, leb}
 use lib.ListN.{length, take, drop}
 use Rattle.card.specs.Words.{pick}
-use Rattle.card.specs.CaseFields.{with-value}
-use Rattle.card.specs.Numbers.{numberOf}
+use Rattle.card.specs.CaseFields.{with-shape, with-value}
+use Rattle.card.specs.Numbers.{none, numberOf}
 use Rattle.card.specs.Refusals.{readCases}
-use Rattle.line.specs.Network.{regsAt}
+use Rattle.line.specs.Network.{regsAt, shape}
 use Rattle.line.specs.Calls.{placeNumber, netWriteNumber, netAfterWrite}
+
+-- "1 SHAPE", or 0
+unfoldable pub shapeNumber : List ℕ → ℕ
+shapeNumber net = numberOf (with-shape (not (shape net)) none)
 
 -- "stores bytes at AT, all inside the length"
 abbrev pub inside : List ℕ → ℕ → ℕ → Bool

@@ -19,6 +19,14 @@ use Rattle.bench.specs.declared.requests.Form.{Form}
 use Rattle.bench.specs.declared.requests.Request.{Request}
 use Rattle.bench.specs.declared.requests.Request.the-variants as request
 
+-- "at most 66,400": the bytes that may be lent
+abbrev pub NET : ℕ
+NET = 66400
+
+-- "ROOM entries are lent, 0 to 70"
+abbrev pub LIST : ℕ
+LIST = 70
+
 -- the bytes of a text
 abbrev pub bytes : String → List ℕ
 bytes none = []
@@ -76,7 +84,7 @@ argument line k n = pick (ltb n k) (record { ok = true; value = 0 }) (numberOf (
 -- the request, within the limits of the buffer and the list
 abbrev pub made : Word → ℕ → ℕ → ℕ → Request
 made Unknown a b c = request.Error mistake.Word
-made Size a b c = pick (ltb 66400 a) (request.Error mistake.Size) (request.Size a)
+made Size a b c = pick (ltb NET a) (request.Error mistake.Size) (request.Size a)
 made Poke a b c = request.Poke a
 made Peek a b c = request.Peek a b
 made Sum a b c = request.Sum
@@ -90,7 +98,7 @@ made Timer a b c = request.Timer a
 made Interrupt a b c = request.Interrupt a
 made Step a b c = request.Step a
 made Data a b c = request.Data a b
-made Lap a b c = pick (ltb 70 a) (request.Error mistake.Room) (request.Lap a)
+made Lap a b c = pick (ltb LIST a) (request.Error mistake.Room) (request.Lap a)
 made Show a b c = request.Show
 made Help a b c = request.Help
 

@@ -6,15 +6,37 @@ ghost use Rattle.words.specs.Hex.{unhex};
 ghost use Rattle.line.specs.Network.{rowLimit};
 ghost use Rattle.desk.specs.Load.{loadNumber, netAfterLoad};
 ghost use Rattle.desk.specs.Lap.{netAfterLap};
-ghost use Rattle.bench.specs.Calls.{inside, poked, wideNumber, valueNumber, netAfterValue};
+ghost use Rattle.bench.specs.Input.{LINE};
+ghost use Rattle.bench.specs.Calls.{shapeNumber, inside, poked, wideNumber, valueNumber, netAfterValue};
 use crate::answers::refused;
+use card::numbers::Cases;
 use desk::laps::Taker;
 use line::network::ROWS;
 use line::network::regs_at;
+use line::network::shape;
 use print::gather::ROOM;
 use print::gather::end;
 use print::gather::number;
 use print::gather::text;
+
+// SHAPE alone: 0 where the network is well formed.
+pub fn shape_number(net: &[u8]) -> u8
+    ensures { λ r. ⌜ r ≡ shapeNumber (now (net .entry)) ⌝ }
+{
+    let mut cases = Cases::none();
+    cases.shape = !shape(net);
+    cases.number()
+}
+
+// Whether the n bytes at `at` all stand inside the lent ones.
+pub fn inside(net: &[u8], at: usize, n: usize) -> bool
+    ensures { λ r. ⌜ r ≡ inside (now (net .entry)) at n ⌝ }
+{
+    if net.len() < at {
+        return false;
+    }
+    n <= net.len() - at
+}
 
 // Bytes are stored, where they all stand inside the lent ones; else nothing is.
 pub fn poke(net: &mut [u8], at: usize, digits: &[u8]) -> bool
@@ -22,10 +44,7 @@ pub fn poke(net: &mut [u8], at: usize, digits: &[u8]) -> bool
     ensures bytes { λ _. ⌜ now (net .exit) ≡ poked (now (net .entry)) at (unhex (now (digits .entry))) ⌝ }
 {
     let n = digits.len() / 2;
-    if net.len() < at {
-        return false;
-    }
-    if net.len() - at < n {
+    if !inside(net, at, n) {
         return false;
     }
     words::hex::unhex(digits, &mut net[at..at + n]);
@@ -34,7 +53,7 @@ pub fn poke(net: &mut [u8], at: usize, digits: &[u8]) -> bool
 
 // The network is made anew from the order that the digits spell.
 pub fn load(net: &mut [u8], digits: &[u8]) -> u8
-    requires { ⌜ length (now digits) ≤ 8192 ⌝ }
+    requires { ⌜ length (now digits) ≤ LINE ⌝ }
     ensures number { λ r. ⌜ r ≡ loadNumber (unhex (now (digits .entry))) (now (net .entry)) ⌝ }
     ensures bytes { λ _. ⌜ now (net .exit) ≡ netAfterLoad (unhex (now (digits .entry))) (now (net .entry)) ⌝ }
 {
@@ -45,11 +64,11 @@ pub fn load(net: &mut [u8], digits: &[u8]) -> u8
 }
 
 // A value above 255 has a bit that no register names: 4, VALUE, unless SHAPE, ROW or REGISTER is the smaller number.
-// SHAPE and ROW are those of any call that changes nothing; a register is there for a write exactly if it is for a read.
+// A register is there for a write exactly if it is for a read.
 fn wide_value(net: &[u8], row: usize, register: usize) -> u8
     ensures { λ r. ⌜ r ≡ wideNumber (now (net .entry)) row register ⌝ }
 {
-    let number = line::calls::interrupt(net, row).number;
+    let number = line::calls::place_number(net, row);
     if number != 0 {
         return number;
     }

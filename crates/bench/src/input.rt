@@ -2,7 +2,7 @@
 ghost use mathlib.Core.Path.{_≡_};
 ghost use Prim.Native.Nat.{_-_, _≤_};
 ghost use lib.ListN.{length, take, drop};
-ghost use Rattle.bench.specs.Input.{Held};
+ghost use Rattle.bench.specs.Input.{LINE, Held};
 use libc::STDIN_FILENO;
 
 // The buffer: a line of this many bytes or more does not fit it.
@@ -74,7 +74,7 @@ fn kept_from(from: usize, to: usize) -> usize
 
 // The input has ended behind the first `to` bytes of the buffer: they are the last line, if there is one.
 fn last(long: bool, to: usize) -> Input
-    requires { ⌜ to ≤ 8192 ⌝ }
+    requires { ⌜ to ≤ LINE ⌝ }
     ensures { λ r. ⌜ Held r ⌝ }
 {
     Input {

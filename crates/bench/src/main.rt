@@ -1,4 +1,5 @@
-// The bench at a prompt (document 01): a line of standard input is a call, and each is answered by a line at once.
+// The bench at a prompt: a line of standard input is a call, answered at once by one line (`show` and `help`: several,
+// the last DONE).
 mod answers;
 mod calls;
 mod help;
@@ -11,7 +12,8 @@ mod turns;
 ghost use mathlib.Core.Path.{_≡_};
 ghost use Prim.Native.Nat.{_≤_};
 ghost use lib.ListN.{length};
-ghost use Rattle.bench.specs.Input.{Held};
+ghost use Rattle.bench.specs.Input.{LINE, Held};
+ghost use Rattle.bench.specs.Requests.{NET};
 use input::Input;
 use input::LINE;
 use print::gather::ROOM;
@@ -19,9 +21,9 @@ use turns::NET;
 
 // The line that was taken is answered, with the first `size` bytes lent. It hands back the current length.
 fn answered(net: &mut [u8], size: usize, lines: &[u8], input: Input, out: &mut [u8; ROOM]) -> usize
-    requires { ⌜ (size ≤ 66400) × (length (now net) ≡ 66400) × (length (now lines) ≡ 8192) ⌝ }
+    requires { ⌜ (size ≤ NET) × (length (now net) ≡ NET) × (length (now lines) ≡ LINE) ⌝ }
     requires { ⌜ Held input ⌝ }
-    ensures { λ r. ⌜ r ≤ 66400 ⌝ }
+    ensures { λ r. ⌜ r ≤ NET ⌝ }
 {
     let from = input.from;
     let end = input.end;

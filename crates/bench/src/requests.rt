@@ -50,7 +50,8 @@ pub enum Word {
     Help,
 }
 
-// What follows a word: how many numbers, and how many words the whole line has. One of Poke's and Load's is of bytes.
+// What follows a word: how many numbers, and how many words the whole line has. For Poke and Load the word after the
+// numbers is of hex digits.
 pub struct Form {
     pub numbers: u8,
     pub fewest: usize,
@@ -119,7 +120,7 @@ fn takes(numbers: u8, fewest: usize, most: usize) -> Form
     }
 }
 
-// No line has as many words as an unknown word may have: none.
+// An unknown word's form is no words at all, which no line has.
 fn form_of(word: Word) -> Form
     ensures { λ r. ⌜ r ≡ formOf word ⌝ }
 {
@@ -210,6 +211,7 @@ fn asked_of(line: &[u8], first: Word) -> Request
     if !(a.ok & b.ok & c.ok) {
         return Request::Error(Mistake::Number);
     }
+    // A word that is not there is empty, and fits.
     if !hex_fits(word(line, n + 1)) {
         return Request::Error(Mistake::Hex);
     }

@@ -5,7 +5,7 @@ ghost use Rattle.line.specs.Network.{rowStart};
 use crate::answers::done;
 use crate::answers::refused;
 use crate::answers::whole;
-use card::numbers::Cases;
+use crate::calls::shape_number;
 use card::regs::BROADCASTS;
 use card::regs::POR;
 use card::regs::RECON;
@@ -15,9 +15,9 @@ use card::regs::TA;
 use card::regs::TMA;
 use line::network::LOST;
 use line::network::PASS;
+use line::network::phase;
 use line::network::regs_at;
 use line::network::rows;
-use line::network::shape;
 use line::network::wide;
 use print::gather::ROOM;
 use print::gather::column;
@@ -75,7 +75,7 @@ fn row(out: &mut [u8; ROOM], k: usize, g: Regs) {
     end(out, n);
 }
 
-fn holder(out: &mut [u8; ROOM], phase: u8, row: u8) {
+fn holder(out: &mut [u8; ROOM], phase: u8, row: usize) {
     if phase == LOST {
         whole(out, b"LOST, nobody holds");
         return;
@@ -86,7 +86,7 @@ fn holder(out: &mut [u8; ROOM], phase: u8, row: u8) {
     } else {
         n = text(out, n, b"TAKEN, row");
     }
-    n = number(out, n, wide(row));
+    n = number(out, n, row);
     n = text(out, n, b" holds");
     end(out, n);
 }
@@ -101,14 +101,13 @@ fn table(out: &mut [u8; ROOM], net: &[u8], n: usize)
 }
 
 pub fn show(out: &mut [u8; ROOM], net: &[u8]) {
-    if !shape(net) {
-        let mut cases = Cases::none();
-        cases.shape = true;
-        refused(out, cases.number());
+    let number = shape_number(net);
+    if number != 0 {
+        refused(out, number);
         return;
     }
     whole(out, b" ROW  ID NID  LINE  TX   RX  FLAGS");
     table(out, net, rows(net));
-    holder(out, net[4], net[5]);
+    holder(out, phase(net), line::network::holder(net));
     done(out);
 }

@@ -1,10 +1,11 @@
 // A line is answered.
 ghost use mathlib.Core.Path.{_≡_};
-ghost use mathlib.Core.List.{_++_};
 ghost use Prim.Native.Nat.{_≤_};
-ghost use lib.ListN.{length, take, drop};
+ghost use lib.ListN.{length};
 ghost use Rattle.words.specs.Hex.{unhex};
+ghost use Rattle.bench.specs.Input.{LINE};
 ghost use Rattle.bench.specs.Calls.{poked};
+ghost use Rattle.bench.specs.Requests.{NET};
 ghost use Rattle.bench.specs.Turns.{netAfter, sizeAfter, netAfterLine, sizeAfterLine};
 use crate::answers;
 use crate::calls;
@@ -12,7 +13,6 @@ use crate::requests::Mistake;
 use crate::requests::Request;
 use crate::requests::asked;
 use crate::show;
-use line::network::shape;
 use print::gather::ROOM;
 use words::words::word;
 
@@ -20,17 +20,11 @@ use words::words::word;
 pub const NET: usize = 66400;
 
 fn check(out: &mut [u8; ROOM], net: &[u8]) {
-    let mut cases = card::numbers::Cases::none();
-    cases.shape = !shape(net);
-    answers::numbered(out, cases.number());
+    answers::numbered(out, calls::shape_number(net));
 }
 
 fn peek(out: &mut [u8; ROOM], net: &[u8], at: usize, count: usize) {
-    if net.len() < at {
-        answers::error(out, Mistake::Outside);
-        return;
-    }
-    if net.len() - at < count {
+    if !calls::inside(net, at, count) {
         answers::error(out, Mistake::Outside);
         return;
     }
@@ -63,7 +57,7 @@ fn data(out: &mut [u8; ROOM], net: &[u8], row: usize, page: usize) {
 }
 
 fn answer(out: &mut [u8; ROOM], net: &mut [u8], request: Request, line: &[u8])
-    requires { ⌜ length (now line) ≤ 8192 ⌝ }
+    requires { ⌜ length (now line) ≤ LINE ⌝ }
     ensures { λ _. ⌜ now (net .exit) ≡ netAfter request (now (line .entry)) (now (net .entry)) ⌝ }
 {
     match request {
@@ -121,8 +115,8 @@ fn size_after(request: Request, size: usize) -> usize
 // A line, of which `long` says that it did not fit, is answered, with the first `size` bytes lent. It hands back the
 // current length.
 pub fn turn(net: &mut [u8], size: usize, line: &[u8], long: bool, out: &mut [u8; ROOM]) -> usize
-    requires { ⌜ (size ≤ 66400) × (length (now net) ≡ 66400) × (length (now line) ≤ 8192) ⌝ }
-    ensures size { λ r. ⌜ (r ≡ sizeAfterLine long (now (line .entry)) size) × (r ≤ 66400) ⌝ }
+    requires { ⌜ (size ≤ NET) × (length (now net) ≡ NET) × (length (now line) ≤ LINE) ⌝ }
+    ensures size { λ r. ⌜ (r ≡ sizeAfterLine long (now (line .entry)) size) × (r ≤ NET) ⌝ }
     ensures bytes { λ _. ⌜ now (net .exit) ≡ netAfterLine long (now (line .entry)) size (now (net .entry)) ⌝ }
 {
     if long {

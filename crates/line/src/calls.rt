@@ -30,7 +30,7 @@ pub struct Interrupting {
 }
 
 // SHAPE and ROW: the cases of every call to a row.
-fn place_number(net: &[u8], row: usize) -> u8
+pub fn place_number(net: &[u8], row: usize) -> u8
     ensures { λ r. ⌜ r ≡ placeNumber (now (net .entry)) row ⌝ }
 {
     let mut cases = Cases::none();

@@ -12,10 +12,10 @@ fn nibble(b: u8) -> u8
         return b - b'0';
     }
     if (b'A' <= b) & (b <= b'F') {
-        return b - 55;
+        return b - b'A' + 10;
     }
     if (b'a' <= b) & (b <= b'f') {
-        return b - 87;
+        return b - b'a' + 10;
     }
     16
 }

@@ -2,12 +2,13 @@
 -- Assumes nothing.
 use Prim.Native.Nat.{_≤_}
 use Rattle.bench.specs.Input.{Held}
+use Rattle.bench.specs.Requests.{NET}
 use borrow.Author.Needs.{needs}
 use Rattle.bench.proofs.run.Statement.{statement}
 use Rattle.bench.proofs.run.Tie as tie
 
 abbrev Inv-loop : tie.InvT-loop
-Inv-loop net₀ lines₀ out₀ size₀ input₀ turns₀ net lines out size input turns = (size ≤ 66400) × Held input
+Inv-loop net₀ lines₀ out₀ size₀ input₀ turns₀ net lines out size input turns = (size ≤ NET) × Held input
 
 abbrev μ-loop : tie.MeasureT-loop
 μ-loop net₀ lines₀ out₀ size₀ input₀ turns₀ net lines out size input turns = turns

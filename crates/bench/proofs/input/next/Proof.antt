@@ -2,13 +2,13 @@
 -- Assumes nothing.
 use Prim.Native.Nat.{_≤_}
 use native.Mathlib.Omega.{arith}
-use Rattle.bench.specs.Input.{Held}
+use Rattle.bench.specs.Input.{LINE, Held}
 use borrow.Author.Needs.{needs}
 use Rattle.bench.proofs.input.next.Statement.{statement}
 use Rattle.bench.proofs.input.next.Tie as tie
 
 abbrev Inv-loop : tie.InvT-loop
-Inv-loop lines₀ from₀ to₀ long₀ turns₀ lines from to long turns = (from ≤ to) × (to ≤ 8192)
+Inv-loop lines₀ from₀ to₀ long₀ turns₀ lines from to long turns = (from ≤ to) × (to ≤ LINE)
 
 abbrev μ-loop : tie.MeasureT-loop
 μ-loop lines₀ from₀ to₀ long₀ turns₀ lines from to long turns = turns
