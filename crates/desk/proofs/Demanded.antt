@@ -127,6 +127,6 @@ module _ (start : List ℕ) (s : shape start ≡ true) (b : Rams start) (lost : 
       lap-of (table l start) l′ (settled ids) v (settled-takes ids) (nodes start) (c .0 ∙ n)
 
 pub demand3 : Demand3
-demand3 net bytes s lost two l h =
-    let b = bytes-rams net s bytes in
-    (λ e. first-lap net s b lost two l e h, λ m e l′ h′ e′. later-lap net s b lost two l h m e l′ h′ e′)
+demand3 net r l h =
+    let b = bytes-rams net (r .fits) (r .bytes) in
+    (λ e. first-lap net (r .fits) b (r .lost) (r .two) l e h, λ m e l′ h′ e′. later-lap net (r .fits) b (r .lost) (r .two) l h m e l′ h′ e′)

@@ -13,7 +13,7 @@ use Rattle.line.proofs.Alike.{bytes-rams}
 use Rattle.line.proofs.View.{Rams, Alike, alike-same, alike-then, any-step}
 use Rattle.line.proofs.Calm.{alike-nodes}
 use Rattle.desk.specs.Lap.{nodes, after, answers, lapSteps, lapNumber, lapped, netAfterLap, lapTakers, takers}
-use Rattle.desk.specs.Demand.{Call, Step, table, steps, answersOf, Throughout, LapOf}
+use Rattle.desk.specs.Demand.{Call, Step, Ready, table, steps, answersOf, Throughout, LapOf}
 use Rattle.desk.specs.Promises.{TheLap, LapCallIsTheLap}
 use Rattle.desk.proofs.LapNumber.{lap-shape, lap-lost, lap-two}
 use Rattle.desk.proofs.Back.{lap-steps}
@@ -71,9 +71,10 @@ lap-call net bytes room z =
     let t = lap-two net room z in
     let b = bytes-rams net s bytes in
     let a = alike-same net s b in
+    let r : Ready net = record { bytes = bytes; fits = s; lost = l; two = t } in
     let k = lapSteps net in
     let made = lap-steps net s b l t in
-    let first = demand3 net bytes s l t (stepCalls k []) (throughout-only k net a) .0 (count-only k net ∙ made) in
+    let first = demand3 net r (stepCalls k []) (throughout-only k net a) .0 (count-only k net ∙ made) in
     let lap : LapOf net (answers k net) (256 + nodes net) (after k net) = rw (answers-steps k net, table-only k net) at first in
     record {
       lap = rw (f, lap .invited) lap;
@@ -84,5 +85,5 @@ lap-call net bytes room z =
       left = rw f;
       later = rw f (λ h u m e h′ u′ e′.
           rw (table-steps h k net) at
-          (demand3 net bytes s l t (stepCalls k h) (throughout-steps h net k net a u) .1 m (omega (arith, count-steps h k, made, e)) h′ (rw (table-steps h k net) u′) e′));
+          (demand3 net r (stepCalls k h) (throughout-steps h net k net a u) .1 m (omega (arith, count-steps h k, made, e)) h′ (rw (table-steps h k net) u′) e′));
     }

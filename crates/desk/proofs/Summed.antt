@@ -8,8 +8,8 @@ use Rattle.card.proofs.CardSums.{count-2, count-3, count-255, long-3, long-4, l
 use Rattle.line.specs.Network.{rows, topId}
 use Rattle.line.proofs.Alike.{bytes-rams}
 use Rattle.desk.specs.Lap.{nodes, answers, invitations, takers, lapSteps}
-use Rattle.desk.specs.Demand.{idsOnLine}
-use Rattle.desk.specs.Sums.{Ready, hopOf, Sums}
+use Rattle.desk.specs.Demand.{Ready, idsOnLine}
+use Rattle.desk.specs.Sums.{hopOf, Sums}
 use Rattle.desk.proofs.Hops.{gaps}
 use Rattle.desk.proofs.LapCounts.{lap-total, lap-hops}
 use Rattle.desk.proofs.Demanded.{ids-roster}

@@ -96,12 +96,18 @@ pub record LapOf (start : List ℕ) (l : List Answer) (i : ℕ) (end : List ℕ)
   pub back : phase end ≡ TAKEN
   pub with : holder end ≡ highest start
 
+-- a network that a lap may be run of: of bytes, well formed, in LOST, with two nodes on line or more
+pub record Ready (net : List ℕ) : Type 0 where
+  pub bytes : (i : ℕ) → getD net i 0 < 256
+  pub fits : shape net ≡ true
+  pub lost : phase net ≡ LOST
+  pub two : 2 ≤ nodes net
+
 -- "From a well-formed network in LOST with n ≥ 2 nodes on line .. exactly 256 + n invitations from recovery until the token is back with the highest
 -- ID .. every later lap takes exactly n": whatever calls come, the first 256 + 2n steps are the first lap, and the 2n after any number m of laps are a lap
 abbrev pub Demand3 : Type 0
 Demand3 =
-    (net : List ℕ) → ((i : ℕ) → getD net i 0 < 256) → shape net ≡ true → phase net ≡ LOST → 2 ≤ nodes net
-    → (l : List Call) → Throughout net l net
+    (net : List ℕ) → Ready net → (l : List Call) → Throughout net l net
     → (steps l ≡ 256 + 2 * nodes net → LapOf net (answersOf l net) (256 + nodes net) (table l net))
     × ((m : ℕ) → steps l ≡ 256 + 2 * nodes net + m * (2 * nodes net) → (l′ : List Call) → Throughout net l′ (table l net) → steps l′ ≡ 2 * nodes net
     → LapOf net (answersOf l′ (table l net)) (nodes net) (table l′ (table l net)))

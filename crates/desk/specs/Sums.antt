@@ -3,8 +3,8 @@
 use mathlib.Core.Path.{_≡_}
 use mathlib.Core.Bool.{Bool, true, false}
 use mathlib.Core.List.{List, [], _∷_, map}
-use Prim.Native.Nat.{ℕ, _+_, _≤_, _<_}
-use lib.ListN.{getD, take}
+use Prim.Native.Nat.{ℕ}
+use lib.ListN.{take}
 use Rattle.card.specs.declared.regs.Regs.{Regs}
 use Rattle.card.specs.declared.packets.Shape.the-variants.{Malformed}
 use Rattle.card.specs.declared.commands.Command.the-variants.{EnableTransmit, EnableReceive}
@@ -14,17 +14,10 @@ use Rattle.card.specs.Commands.{commandOf}
 use Rattle.card.specs.Registers.{pointer, stepped, hardwareReset, configured}
 use Rattle.card.specs.Packets.{shapeOf, dataBytes}
 use Rattle.card.specs.Events.{risenNid}
-use Rattle.line.specs.Network.{rows, phase, LOST, topId, shape}
+use Rattle.line.specs.Network.{rows, topId}
 use Rattle.desk.specs.declared.laps.Taker.{Taker}
 use Rattle.desk.specs.Lap.{nodes, answers, invitations, takers, lapSteps}
-use Rattle.desk.specs.Demand.{idsOnLine}
-
--- a network that a lap may be run of: of bytes, well formed, in LOST, with two nodes on line or more
-pub record Ready (net : List ℕ) : Type 0 where
-  pub bytes : (i : ℕ) → getD net i 0 < 256
-  pub fits : shape net ≡ true
-  pub lost : phase net ≡ LOST
-  pub two : 2 ≤ nodes net
+use Rattle.desk.specs.Demand.{Ready, idsOnLine}
 
 -- an entry's node ID, and its invitations
 abbrev pub hopOf : Taker → ℕ × ℕ

@@ -41,14 +41,14 @@ row-moved r l w g s =
     }
 
 -- registers that fit, of the same card, with its NID
-pub record Calm (g h : Regs) : Type 0 where
+pub record SameNid (g h : Regs) : Type 0 where
   pub fits : Fit h
   pub kept : card.Kept g h
 
-same-of : (g h : Regs) → Calm g h → Same g h
+same-of : (g h : Regs) → SameNid g h → Same g h
 same-of g h c = record { fits = c .fits; id = c .kept .id; configuration = c .kept .configuration }
 
-pub row-still : (r : List ℕ) → length r ≡ rowBytes → wellFormed r ≡ true → (g : Regs) → Calm (regsOf r) g → Still r (putRegs r g)
+pub row-still : (r : List ℕ) → length r ≡ rowBytes → wellFormed r ≡ true → (g : Regs) → SameNid (regsOf r) g → Still r (putRegs r g)
 row-still r l w g c = record {
   moved = row-moved r l w g (same-of (regsOf r) g c);
   nid = ap (λ (x : Regs). x .nid) (regs-put r g (omega arith)) ∙ c .kept .nid;
@@ -59,7 +59,7 @@ abbrev pub Keeps : (Regs → Regs) → Type 0
 Keeps f = (g : Regs) → Fit g → Same g (f g)
 
 abbrev pub Stays : (Regs → Regs) → Type 0
-Stays f = (g : Regs) → Fit g → Calm g (f g)
+Stays f = (g : Regs) → Fit g → SameNid g (f g)
 
 pub stays-sent : (a : Bool) → Stays (λ g. sent g a)
 stays-sent a g f = record { fits = keep-sent g f a; kept = card.kept-sent g a }
@@ -83,7 +83,7 @@ keeps-risen g f = record { fits = keep-risen g f; id = card.is-risen g .id; conf
 
 -- an event reaches a row
 pub stays-message : (h : ℕ) (t : Bool) (k : ℕ) → Stays (happens (Message h t) k)
-stays-message h t k g f = pick-of (Calm g) (eqb k h) (λ _. record { fits = f; kept = card.kept-same g }) (λ _. stays-heard t g f)
+stays-message h t k g f = pick-of (SameNid g) (eqb k h) (λ _. record { fits = f; kept = card.kept-same g }) (λ _. stays-heard t g f)
 
 pub stays-taken : (i t k : ℕ) → Stays (happens (Taken i t) k)
 stays-taken i t k g f = record { fits = keep-answered g f i (eqb k t); kept = card.kept-answered g i (eqb k t) }

@@ -23,7 +23,7 @@ use Rattle.line.proofs.Networks.{rowAt-setRow, rowAt-setRow-other}
 use Rattle.line.proofs.Shapes.{shape-within, shape-row, shape-row-length}
 use Rattle.line.proofs.ShapesKept.{Became, became-each, became-put}
 use Rattle.line.proofs.Became.{Moved, Still, moved-same, still-same, still-regs, became-rows, shape-moved, shape-still}
-use Rattle.line.proofs.RegsKeep.{Same, Calm, Keeps, Stays, row-moved, row-still, stays-cancelled, reaches}
+use Rattle.line.proofs.RegsKeep.{Same, SameNid, Keeps, Stays, row-moved, row-still, stays-cancelled, reaches}
 
 module _ (net : List ℕ) (k : ℕ) (s : shape net ≡ true) (h : k < rows net) where
   abbrev here : List ℕ
@@ -38,7 +38,7 @@ module _ (net : List ℕ) (k : ℕ) (s : shape net ≡ true) (h : k < rows net) 
       let l = shape-row-length net s k h in
       (length-put here g ∙ l, row-moved here l (shape-row net s k h) g e)
 
-  regs-still : (g : Regs) → Calm (regsAt net k) g → (length (putRegs here g) ≡ rowBytes) × Still here (putRegs here g)
+  regs-still : (g : Regs) → SameNid (regsAt net k) g → (length (putRegs here g) ≡ rowBytes) × Still here (putRegs here g)
   regs-still g e =
       let l = shape-row-length net s k h in
       (length-put here g ∙ l, row-still here l (shape-row net s k h) g e)
