@@ -8,7 +8,7 @@ use Prim.Native.Nat.{ℕ, zero, suc, _+_, _*_, _-_, _<_, _≤_}
 use native.Mathlib.Numerals.{add-one}
 use native.Mathlib.Omega.{arith}
 use lib.Dec.{eqb, ltb}
-use lib.ListN.{length, take, set, length-set, length-append}
+use lib.ListN.{length, take, drop, set, length-set, length-append}
 use lib.Seq.{take-suc-set}
 use borrow.Author.Tests.{eqb-true, eqb-false, ltb-true, ltb-false}
 use Rattle.card.specs.declared.regs.Regs.{Regs}
@@ -20,7 +20,7 @@ use Rattle.line.specs.Network.{rows, regsAt}
 use Rattle.line.specs.Step.{step, answerValue}
 use Rattle.line.proofs.Folds.{clash}
 use Rattle.desk.specs.declared.laps.Taker.{Taker}
-use Rattle.desk.specs.Lap.{nodes, after, answers, invitation, passed, invitations, entry, takers}
+use Rattle.desk.specs.Lap.{nodes, after, answers, invitation, passed, invitations, entry, nobody, takers}
 use Rattle.desk.proofs.Steps.{after-none, after-more, answers-none, answers-more, since, since-none, since-more, invitations-none, invitations-more, takers-none, takers-more}
 use Rattle.desk.proofs.Walking.{alikes, invitations-most, since-most, entries}
 use Rattle.desk.proofs.Course.{backTo, passed-below, Course, nodes-most}
@@ -34,12 +34,27 @@ passed-invites (Unanswered i) e = refl
 passed-invites TokenLost e = e
 passed-invites (Held o) e = e
 
+-- ---- the entries past n, and past one more
+past-one : {A : Type 0} (n : ℕ) (l : List A) → drop (suc n) l ≡ drop 1 (drop n l)
+past-one zero l = refl
+past-one (suc n) [] = refl
+past-one (suc n) (x ∷ l) = past-one n l
+
+past : {A : Type 0} (n : ℕ) (l m : List A) → drop n l ≡ drop n m → drop (suc n) l ≡ drop (suc n) m
+past n l m e = past-one n l ∙ ap (drop 1) e ∙ sym (past-one n m)
+
+past-set : {A : Type 0} (n : ℕ) (l : List A) (x : A) → drop (suc n) (set l n x) ≡ drop (suc n) l
+past-set n [] x = refl
+past-set zero (y ∷ l) x = refl
+past-set (suc n) (y ∷ l) x = past-set n l x
+
 -- after k steps of the lap from net on, which has recovered: the variables of the loop
 pub record Going (net : List ℕ) (first : ℕ) (now : List ℕ) (list : List Taker) (n recent total : ℕ) (home : Bool) : Type 0 where
   pub course : Course net first
   pub k : ℕ
   pub now-is : now ≡ after k net
   pub room : length list ≡ 60
+  pub unused : drop n list ≡ drop n nobody
   pub listed : take n list ≡ takers net 0 (answers k net)
   pub many : n ≡ entries net k
   pub recent-is : recent ≡ since 0 (answers k net)
@@ -47,12 +62,13 @@ pub record Going (net : List ℕ) (first : ℕ) (now : List ℕ) (list : List Ta
   pub away : home ≡ false → k < 255 + 2 * nodes net
   pub back-home : home ≡ true → k ≡ 255 + 2 * nodes net
 
-pub begin : (net : List ℕ) (first : ℕ) → Course net first → (list : List Taker) → length list ≡ 60 → Going net first net list 0 0 0 false
+pub begin : (net : List ℕ) (first : ℕ) → Course net first → (list : List Taker) → list ≡ nobody → Going net first net list 0 0 0 false
 begin net first c list l = record {
   course = c;
   k = 0;
   now-is = sym (after-none net);
-  room = l;
+  room = rw l;
+  unused = l;
   listed = sym (rw answers-none (takers-none net 0));
   many = sym (rw answers-none (ap length (takers-none net 0)));
   recent-is = sym (rw answers-none (since-none 0));
@@ -106,6 +122,7 @@ module _ (net : List ℕ) (first : ℕ) (now : List ℕ) (list : List Taker) (n 
     k = suc (v .k);
     now-is = there;
     room = v .room;
+    unused = v .unused;
     listed = v .listed ∙ same f;
     many = v .many ∙ ap length (same f);
     recent-is = rw (answered, since-more, f, ← (v .recent-is), add-one);
@@ -152,6 +169,7 @@ module _ (net : List ℕ) (first : ℕ) (now : List ℕ) (list : List Taker) (n 
       k = suc (v .k);
       now-is = there;
       room = length-set list n taker ∙ v .room;
+      unused = rw add-one (past-set n list taker ∙ past n list nobody (v .unused));
       listed = rw (add-one, take-suc-set list n taker (omega (arith, v .room, space)), v .listed, more);
       many = rw (more, length-append, ← (v .many));
       recent-is = rw (answered, since-more, p);

@@ -5,35 +5,30 @@ use mathlib.Core.Bool.{true}
 use mathlib.Core.List.{List, []}
 use Prim.Native.Nat.{ℕ, _≤_}
 use native.Mathlib.Omega.{arith}
-use lib.ListN.{take}
+use lib.ListN.{take, drop}
 use borrow.Author.Tests.{eq-eqb, ne-eqb}
 use Rattle.line.specs.Network.{rows, shape}
 use Rattle.line.proofs.Shapes.{shape-rows}
 use Rattle.desk.specs.declared.laps.Taker.{Taker}
 use Rattle.desk.specs.declared.laps.Lapped.{Lapped}
-use Rattle.desk.specs.Lap.{nodes, after, answers, invitations, takers, lapSteps, lapNumber, lapped, netAfterLap, lapTakers}
+use Rattle.desk.specs.Lap.{nodes, after, answers, invitations, takers, lapSteps, lapNumber, lapped, netAfterLap, lapTakers, nobody, Walks}
 use Rattle.desk.proofs.Count.{online-most}
 use Rattle.desk.proofs.LapNumber.{lap-shape, lap-room}
 
--- what the call leaves
-abbrev pub Said : List ℕ → ℕ → ℕ → List Taker → Lapped → List ℕ → Type 0
-Said net room n list done new =
-    (n ≤ 60) × (n ≤ room) × (take n list ≡ lapTakers net room) × (done ≡ lapped net room) × (new ≡ netAfterLap net room)
-
 module _ (net : List ℕ) (room k : ℕ) (e : k ≡ lapNumber net room) where
-  pub refused : (k ≡ 0 → ⊥) → (list : List Taker) → Said net room 0 list (record { number = k; total = 0 }) net
+  pub refused : (k ≡ 0 → ⊥) → (list : List Taker) → list ≡ nobody → Walks net room 0 list (record { number = k; total = 0 }) net
   unfolding lapTakers lapped netAfterLap
-  refused n list =
+  refused n list l =
       let f = ne-eqb (lapNumber net room) 0 (λ z. n (e ∙ z)) in
-      (omega arith, omega arith, rw f, rw (f, e), rw f)
+      (omega arith, omega arith, rw f, l, rw (f, e), rw f)
 
   pub run : k ≡ 0 → (n : ℕ) (list : List Taker) (done : Lapped) (new : List ℕ)
       → (done ≡ record { number = 0; total = invitations (answers (lapSteps net) net) }) × (n ≡ nodes net)
-      × (take n list ≡ takers net 0 (answers (lapSteps net) net)) × (new ≡ after (lapSteps net) net)
-      → Said net room n list done new
+      × (take n list ≡ takers net 0 (answers (lapSteps net) net)) × (new ≡ after (lapSteps net) net) × (drop n list ≡ drop n nobody)
+      → Walks net room n list done new
   unfolding lapTakers lapped netAfterLap
   run z n list done new q =
       let zero : lapNumber net room ≡ 0 = sym e ∙ z in
       let f = eq-eqb (lapNumber net room) 0 zero in
       let s = lap-shape net room zero in
-      (omega (arith, q .1, online-most net (rows net), shape-rows net s .1), omega (arith, q .1, lap-room net room zero), rw f (q .2), rw (f, zero) (q .0), rw f (q .3))
+      (omega (arith, q .1, online-most net (rows net), shape-rows net s .1), omega (arith, q .1, lap-room net room zero), rw f (q .2), q .4, rw (f, zero) (q .0), rw f (q .3))

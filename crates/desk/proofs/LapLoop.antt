@@ -6,7 +6,7 @@ use mathlib.Core.List.{List}
 use Prim.Native.Nat.{ℕ, zero, suc, _+_, _*_, _-_, _<_, _≤_}
 use native.Mathlib.Omega.{arith}
 use lib.Dec.{eqb}
-use lib.ListN.{length, take, set}
+use lib.ListN.{length, take, drop, set}
 use borrow.Author.Tests.{not-true}
 use Rattle.card.specs.declared.regs.Regs.{Regs}
 use Rattle.card.specs.Words.{pick}
@@ -19,7 +19,7 @@ use Rattle.line.proofs.StepIs.{step-is}
 use Rattle.line.proofs.Shapes.{shape-within, shape-rows, shape-length}
 use Rattle.line.proofs.View.{Rams, any-step}
 use Rattle.desk.specs.declared.laps.Taker.{Taker}
-use Rattle.desk.specs.Lap.{nodes, after, answers, invitation, passed, invitations, takers, lapSteps}
+use Rattle.desk.specs.Lap.{nodes, after, answers, invitation, passed, invitations, nobody, takers, lapSteps}
 use Rattle.desk.proofs.Steps.{after-more}
 use Rattle.desk.proofs.Back.{start, first-holder}
 use Rattle.desk.proofs.LapCounts.{lap-entries}
@@ -41,7 +41,7 @@ module _ (net : List ℕ) (s : shape net ≡ true) (a : Answer) (new : List ℕ)
 -- ---- the recovery
 module _ (net : List ℕ) (s : shape net ≡ true) (b : Rams net) (lost : phase net ≡ LOST) (two : 2 ≤ nodes net) (a : Answer) (new : List ℕ) (e : Stepped net a new)
     (first : ℕ) (ef : first ≡ answerValue a) where
-  pub starts : (list : List Taker) → length list ≡ 60 → Going new first new list 0 0 0 false
+  pub starts : (list : List Taker) → list ≡ nobody → Going new first new list 0 0 0 false
   starts list l =
       let f = ef ∙ ap answerValue (told net s a new e ∙ start net s b lost two .answer) ∙ sym (first-holder net s b lost two) in
       begin new first (rw (came net s a new e) (course net s b lost two first f)) list l
@@ -59,6 +59,7 @@ module _ (net : List ℕ) (s : shape net ≡ true) (b : Rams net) (lost : phase 
     pub count : n ≡ nodes net
     pub listed : take n list ≡ takers net 0 (answers (lapSteps net) net)
     pub bytes : now ≡ after (lapSteps net) net
+    pub rest : drop n list ≡ drop n nobody
 
   pub ends : (now : List ℕ) (list : List Taker) (n recent total : ℕ) (home : Bool) → Going new first now list n recent total home → not home ≡ false
       → Ended now list n total
@@ -70,6 +71,7 @@ module _ (net : List ℕ) (s : shape net ≡ true) (b : Rams net) (lost : phase 
         count = rw (k, r) at (v .many) ∙ sym (ap length (lap-takers net s b lost two)) ∙ lap-entries net s b lost two;
         listed = rw (k, r) at (v .listed) ∙ sym (lap-takers net s b lost two);
         bytes = rw (k, r) at (v .now-is) ∙ sym (lap-after net s b lost two);
+        rest = v .unused;
       }
   ends now list n recent total false v t = absurd (true≢false t)
 

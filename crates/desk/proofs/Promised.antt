@@ -1,10 +1,12 @@
 -- Refused calls change nothing, no call changes another row, a fault that meets nothing does nothing, the sizes of packets, and no second outcome fits a statement.
 -- Assumes nothing.
-use mathlib.Core.Path.{_≡_, refl, sym, _∙_}
-use mathlib.Core.List.{List, []}
-use Prim.Native.Nat.{ℕ}
+use mathlib.Core.Path.{_≡_, refl, sym, ap, _∙_}
+use mathlib.Core.List.{List, [], _++_}
+use Prim.Native.Nat.{ℕ, _≤_}
+use native.Mathlib.Omega.{arith}
 use lib.Dec.{eqb}
-use lib.ListN.{length, drop}
+use lib.ListN.{length, take, drop, take-append-drop}
+use lib.Seq.{length-take-le}
 use borrow.Author.Tests.{ne-eqb}
 use Rattle.line.proofs.Refused.{read-refused, write-refused, reset-refused, timer-refused, interrupt-refused, data-refused, fresh-refused, step-refused}
 use Rattle.line.proofs.Alike.{bytes-rams}
@@ -14,9 +16,11 @@ use Rattle.line.proofs.Bystanding.{bystands}
 use Rattle.line.proofs.HolderLeft.{holder-left}
 use Rattle.line.proofs.Faults.{idle-fault}
 use Rattle.card.proofs.CardSums.{data-sizes}
+use Rattle.line.specs.Network.{rowLimit}
 use Rattle.desk.specs.declared.laps.Taker.{Taker}
+use Rattle.desk.specs.declared.laps.Lapped.{Lapped}
 use Rattle.desk.specs.Load.{loadNumber, netAfterLoad}
-use Rattle.desk.specs.Lap.{lapNumber, lapped, netAfterLap, lapTakers, listAfterLap}
+use Rattle.desk.specs.Lap.{lapNumber, lapped, netAfterLap, lapTakers, listAfterLap, nobody, Walks}
 use Rattle.desk.specs.Promises.{Refused, RefusalsChangeNothing, NoOtherRow, OutcomesSay, IdleFaults, Sizes, Only, Only2, OneOutcome}
 
 load-refused : (order net : List ℕ) → Refused (loadNumber order net) → netAfterLoad order net ≡ net
@@ -73,6 +77,22 @@ only x r r′ e e′ = e ∙ sym e′
 only2 : {A B : Type 0} (x : A) (y : B) → Only2 x y
 only2 x y r r′ a a′ e e′ = (e .0 ∙ sym (e′ .0), e .1 ∙ sym (e′ .1))
 
+-- the takers fill the front of the list, and nobody has the rest
+only-walk : (net : List ℕ) (room n n′ : ℕ) (list list′ : List Taker) (done done′ : Lapped) (new new′ : List ℕ) → length list ≡ rowLimit → length list′ ≡ rowLimit
+    → Walks net room n list done new → Walks net room n′ list′ done′ new′ → (n ≡ n′) × ((list ≡ list′) × ((done ≡ done′) × (new ≡ new′)))
+only-walk net room n n′ list list′ done done′ new new′ l l′ a b =
+    let size : (k : ℕ) (x : List Taker) → length x ≡ rowLimit → k ≤ rowLimit → take k x ≡ lapTakers net room → k ≡ length (lapTakers net room)
+    = λ k x e h t. sym (length-take-le k x (omega (arith, e))) ∙ ap length t in
+    let whole : (k : ℕ) (x : List Taker) → take k x ≡ lapTakers net room → drop k x ≡ drop k nobody → x ≡ lapTakers net room ++ drop k nobody
+    = λ k x t d. sym (take-append-drop k x) ∙ rw (t, d) in
+    let e : n ≡ n′ = size n list l (a .0) (a .2) ∙ sym (size n′ list′ l′ (b .0) (b .2)) in (
+      e,
+      (
+        whole n list (a .2) (a .3) ∙ rw e (sym (whole n′ list′ (b .2) (b .3))),
+        (a .4 ∙ sym (b .4), a .5 ∙ sym (b .5)),
+      ),
+    )
+
 pub one-outcome : OneOutcome
 one-outcome = record {
   shape-of = λ net. only _;
@@ -89,8 +109,7 @@ one-outcome = record {
   order-fits = λ order. only _;
   name-at = λ order k. only _;
   load = λ order net. only2 _ _;
-  walk = λ net room. only2 _ _;
-  walk-list = λ net room. only _;
+  walk = only-walk;
   lap = λ net list. only2 _ _;
   lap-list = λ net list. only _;
 }

@@ -2,9 +2,10 @@
 -- Assumes nothing.
 use mathlib.Core.Bool.{Bool, true, false, not, _&&_}
 use mathlib.Core.List.{List, [], _∷_, _++_}
-use Prim.Native.Nat.{ℕ, zero, suc, _+_, _*_}
+use mathlib.Core.Path.{_≡_}
+use Prim.Native.Nat.{ℕ, zero, suc, _+_, _*_, _≤_}
 use lib.Dec.{eqb, ltb}
-use lib.ListN.{length, drop}
+use lib.ListN.{length, take, drop, replicate}
 use Rattle.card.specs.declared.numbers.Cases.{Cases}
 use Rattle.card.specs.Words.{pick}
 use Rattle.card.specs.CaseFields.{with-shape, with-busy, with-alone, with-room}
@@ -12,7 +13,7 @@ use Rattle.card.specs.Numbers.{none, numberOf}
 use Rattle.line.specs.declared.step.Answer.{Answer}
 use Rattle.line.specs.declared.step.Answer.the-variants.{Refused, Quiet, Recovered, Passed, Unanswered, TokenLost, Held}
 use Rattle.line.specs.Folds.{seek}
-use Rattle.line.specs.Network.{rows, phase, holder, LOST, regsAt, onLineAt, shape}
+use Rattle.line.specs.Network.{rowLimit, rows, phase, holder, LOST, regsAt, onLineAt, shape}
 use Rattle.line.specs.Step.{step, answerValue}
 use Rattle.desk.specs.declared.laps.Taker.{Taker}
 use Rattle.desk.specs.declared.laps.Lapped.{Lapped}
@@ -61,6 +62,13 @@ invitations (a ∷ l) = pick (invitation a) (suc (invitations l)) (invitations l
 abbrev pub entry : List ℕ → ℕ → ℕ → Taker
 entry net r c = record { id = regsAt net r .id; row = r; invitations = suc c }
 
+-- an entry that nobody has taken, and a list of them
+abbrev pub noTaker : Taker
+noTaker = record { id = 0; row = 0; invitations = 0 }
+
+abbrev pub nobody : List Taker
+nobody = replicate rowLimit noTaker
+
 unfoldable pub takers : List ℕ → ℕ → List Answer → List Taker
 takers net c [] = []
 takers net c (a ∷ l) = pick (passed a) (entry net (answerValue a) c ∷ takers net 0 l) (takers net (pick (invitation a) (suc c) c) l)
@@ -102,3 +110,8 @@ lapTakers net room = pick (runs net room) (takers net 0 (answers (lapSteps net) 
 
 unfoldable pub listAfterLap : List ℕ → List Taker → List Taker
 listAfterLap net list = lapTakers net (length list) ++ drop (length (lapTakers net (length list))) list
+
+-- what is handed back where no list is lent: how many takers there are, the list, in which they come first and nobody has the rest, the answer, and the network
+abbrev pub Walks : List ℕ → ℕ → ℕ → List Taker → Lapped → List ℕ → Type 0
+Walks net room n list done new =
+    (n ≤ rowLimit) × (n ≤ room) × (take n list ≡ lapTakers net room) × (drop n list ≡ drop n nobody) × (done ≡ lapped net room) × (new ≡ netAfterLap net room)

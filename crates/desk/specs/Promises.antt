@@ -10,14 +10,15 @@ use Rattle.card.specs.Events.{receiving}
 use Rattle.card.specs.Bystander.{Bystander}
 use Rattle.line.specs.declared.traffic.Outcome.{Outcome}
 use Rattle.line.specs.declared.step.Answer.the-variants.{Held}
-use Rattle.line.specs.Network.{headerBytes, rows, phase, holder, TAKEN, rowAt, regsAt, shape, SameFrame, OnlyRow}
+use Rattle.line.specs.Network.{headerBytes, rowLimit, rows, phase, holder, TAKEN, rowAt, regsAt, shape, SameFrame, OnlyRow}
 use Rattle.line.specs.Calls.{placeNumber, netReading, netAfterRead, netWriteNumber, netAfterWrite, netAfterReset, timerNumber, netAfterTimer, netInterrupt, netData, netDataNumber, freshNumber, netAfterFresh}
 use Rattle.line.specs.Step.{step, answerNumber, answerValue}
 use Rattle.line.specs.Outcomes.{HolderLeft, meets}
 use Rattle.desk.specs.declared.laps.Taker.{Taker}
+use Rattle.desk.specs.declared.laps.Lapped.{Lapped}
 use Rattle.desk.specs.Order.{records, orderFits, nameAt}
 use Rattle.desk.specs.Load.{loadNumber, netAfterLoad}
-use Rattle.desk.specs.Lap.{nodes, after, answers, takers, lapSteps, lapNumber, lapped, netAfterLap, lapTakers, listAfterLap}
+use Rattle.desk.specs.Lap.{nodes, after, answers, takers, lapSteps, lapNumber, lapped, netAfterLap, lapTakers, listAfterLap, Walks}
 use Rattle.desk.specs.Demand.{Call, table, steps, answersOf, Throughout, LapOf}
 
 -- ---- "A refusal returns 0, or length 0, beside its number, and no lent byte or entry changes": the number is a refusal's
@@ -71,7 +72,7 @@ Only {A} x = (r r′ : A) → r ≡ x → r′ ≡ x → r ≡ r′
 abbrev pub Only2 : {A B : Type 0} → A → B → Type 0
 Only2 {A} {B} x y = (r r′ : A) (a a′ : B) → (r ≡ x) × (a ≡ y) → (r′ ≡ x) × (a′ ≡ y) → (r ≡ r′) × (a ≡ a′)
 
--- for each entry point, what its `ensures` say; of `laps::walk` the entries past n are not fixed
+-- for each entry point, what its `ensures` say; `laps::walk` hands back a list of sixty
 pub record OneOutcome : Type 0 where
   pub shape-of : (net : List ℕ) → Only (shape net)
   pub fresh : (net : List ℕ) (n : ℕ) → Only2 (freshNumber net n) (netAfterFresh net n)
@@ -87,8 +88,8 @@ pub record OneOutcome : Type 0 where
   pub order-fits : (order : List ℕ) → Only (orderFits order)
   pub name-at : (order : List ℕ) (k : ℕ) → Only (nameAt order k)
   pub load : (order net : List ℕ) → Only2 (loadNumber order net) (netAfterLoad order net)
-  pub walk : (net : List ℕ) (room : ℕ) → Only2 (lapped net room) (netAfterLap net room)
-  pub walk-list : (net : List ℕ) (room : ℕ) → Only (lapTakers net room)
+  pub walk : (net : List ℕ) (room n n′ : ℕ) (list list′ : List Taker) (done done′ : Lapped) (new new′ : List ℕ) → length list ≡ rowLimit → length list′ ≡ rowLimit
+      → Walks net room n list done new → Walks net room n′ list′ done′ new′ → (n ≡ n′) × ((list ≡ list′) × ((done ≡ done′) × (new ≡ new′)))
   pub lap : (net : List ℕ) (list : List Taker) → Only2 (lapped net (length list)) (netAfterLap net (length list))
   pub lap-list : (net : List ℕ) (list : List Taker) → Only (listAfterLap net list)
 

@@ -5,7 +5,7 @@ ghost use mathlib.Core.List.{_++_};
 ghost use Prim.Native.Nat.{_≤_};
 ghost use lib.ListN.{length, take, drop};
 ghost use Rattle.line.specs.Network.{rowLimit, LOST, rowStart, phase, shape};
-ghost use Rattle.desk.specs.Lap.{online, nodes, invitation, passed, invitations, takers, answers, after, lapSteps, lapNumber, lapped, netAfterLap, lapTakers, listAfterLap};
+ghost use Rattle.desk.specs.Lap.{online, nodes, invitation, passed, invitations, takers, answers, after, lapSteps, lapNumber, lapped, netAfterLap, lapTakers, listAfterLap, nobody, Walks};
 use card::numbers::Cases;
 use line::network::LOST;
 use line::network::ROWS;
@@ -100,7 +100,7 @@ fn lap_number(net: &[u8], room: usize) -> u8
 
 // A list of takers with nobody in it yet.
 fn nobody() -> [Taker; ROWS]
-    ensures { λ r. ⌜ length r ≡ rowLimit ⌝ }
+    ensures { λ r. ⌜ r ≡ nobody ⌝ }
 {
     [Taker {
         id: 0,
@@ -118,6 +118,7 @@ fn run(net: &mut [u8]) -> Walked
     ensures count { λ r. ⌜ r .n ≡ nodes (now (net .entry)) ⌝ }
     ensures list { λ r. ⌜ take (r .n) (r .list) ≡ takers (now (net .entry)) 0 (answers (lapSteps (now (net .entry))) (now (net .entry))) ⌝ }
     ensures bytes { λ _. ⌜ now (net .exit) ≡ after (lapSteps (now (net .entry))) (now (net .entry)) ⌝ }
+    ensures rest { λ r. ⌜ drop (r .n) (r .list) ≡ drop (r .n) nobody ⌝ }
 {
     let first = step_on(net, 0).value();
     let mut list = nobody();
@@ -150,10 +151,9 @@ fn run(net: &mut [u8]) -> Walked
     }
 }
 
-// The lap, for a list of `room` entries.
+// The lap, for a list of `room` entries; the entries past n are nobody's.
 pub fn walk(net: &mut [u8], room: usize) -> Walked
-    ensures { λ r. ⌜ (r .n ≤ rowLimit) × (r .n ≤ room) × (take (r .n) (r .list) ≡ lapTakers (now (net .entry)) room)
-        × (r .lapped ≡ lapped (now (net .entry)) room) × (now (net .exit) ≡ netAfterLap (now (net .entry)) room) ⌝ }
+    ensures { λ r. ⌜ Walks (now (net .entry)) room (r .n) (r .list) (r .lapped) (now (net .exit)) ⌝ }
 {
     let number = lap_number(net, room);
     if number != 0 {

@@ -40,7 +40,7 @@ use denote.Triple.Statement.{Contract, Triple}
 use denote.Triple.Call.{calls-at}
 use denote.Triple.Table.{entered, cited}
 use denote.Triple.Walked.{says, Stays, gave-slice, walkOf, goes-gave-slice, Walks, ends-at, walked, walk-meets}
-use Rattle.desk.specs.Lap.{lapTakers, lapped, netAfterLap, listAfterLap}
+use Rattle.desk.specs.Lap.{lapTakers, lapped, netAfterLap, listAfterLap, Walks as Handed}
 use Rattle.desk.specs.declared.laps.Taker.{Taker}
 use Rattle.desk.specs.declared.laps.Walked.{Walked}
 use Rattle.desk.proofs.WalkSteps.{var, part, sets, ends, answers}
@@ -138,7 +138,7 @@ module _ {M : Type 1} (𝓤 : URA M) (H : Heap 𝓤) (A : Atoms 𝓤) (W : Given
 
   -- what `walk` says of its result r and of the network's last bytes
   abbrev Said : Walked → List ℕ → Type 0
-  Said r zs = (r .n ≤ 60) × (r .n ≤ m) × (take (r .n) (r .list) ≡ lapTakers ys m) × (r .lapped ≡ lapped ys m) × (zs ≡ netAfterLap ys m)
+  Said r zs = Handed ys m (r .n) (r .list) (r .lapped) zs
 
   module _ (r : Walked) where
     -- what `fill` says of the last entries
@@ -173,7 +173,7 @@ module _ {M : Type 1} (𝓤 : URA M) (H : Heap 𝓤) (A : Atoms 𝓤) (W : Given
     exits zs ws e e′ l l′ sixty is =
         qed W (Last zs ws) ∵
         suffices ! _ (ends-at 𝓤 H A f.ended stayed (f.clauses 𝓤 H A at-mem run) W bound mach-lapped (r .lapped) (zs, (ws, tt)) (l, (l′, tt))) $
-        says ! (e .3, e .4, stored ys (r .list) ts ws (r .n) sixty (e .0) (e .2) e′) $
+        says ! (e .4, e .5, stored ys (r .list) ts ws (r .n) sixty (e .0) (e .2) e′) $
         split ! $ move ! (0 ∷ 2 ∷ []) $ join ! $ frame ! $ move ! (2 ∷ 0 ∷ []) $ fjoin ! $ move ! (1 ∷ 0 ∷ []) $ fjoin ! $
         owned ! D.the-row (Is D.the-row) (LL.makes D.the-type D′.the-plain 𝓤 H A) (r .lapped) _ is $ move ! (1 ∷ 0 ∷ []) $ done !
 

@@ -147,7 +147,7 @@ returns c =
     let l = c .before .loop in
     let d = ends _ s (bytes-rams _ s (λ i. omega (arith, o .before .before .slice-known .given i))) (f .pre .1 .0) (f .pre .1 .1) _ _ (o .step-on .ensures) _ (c .before .before .before .value .ensures)
     _ _ _ _ _ _ (l .inv) (c .loop-test .left) in
-    (ap (λ (t : ℕ). record { number = 0; total = t }) (d .answer), (d .count, (d .listed, d .bytes)))
+    (ap (λ (t : ℕ). record { number = 0; total = t }) (d .answer), (d .count, (d .listed, (d .bytes, d .rest))))
 
 pub run-spec : {M : Type 1} → statement M
 run-spec =

@@ -7,7 +7,7 @@ use Rattle.desk.proofs.laps.walk.Statement.{statement}
 use Rattle.desk.proofs.laps.walk.Tie as tie
 
 returns : tie.Need-returns
-returns c = let i = c .before in refused _ _ _ (i .before .lap-number .ensures) (i .if1 .taken) (c .nobody .result)
+returns c = let i = c .before in refused _ _ _ (i .before .lap-number .ensures) (i .if1 .taken) _ (c .nobody .ensures)
 
 run-requires : tie.Need-run-requires
 run-requires c κs =
@@ -20,7 +20,7 @@ returns-2 c =
     let r = c .before .before in
     let i = r .before .before in
     let q = r .run .ensures in
-    run _ _ _ (i .before .lap-number .ensures) (i .if1 .left) _ _ _ _ (q .0, q .1 .0, q .1 .1 .0, q .1 .1 .1)
+    run _ _ _ (i .before .lap-number .ensures) (i .if1 .left) _ _ _ _ (q .0, q .1 .0, q .1 .1 .0, q .1 .1 .1 .0, q .1 .1 .1 .1)
 
 pub walk-spec : {M : Type 1} → statement M
 walk-spec =
