@@ -1,20 +1,29 @@
 -- A card that a message or a recovery reaches is a bystander: only its status, its diagnostic status and its NID may change.
 -- Assumes nothing.
 use mathlib.Core.Path.{_≡_, refl, _∙_}
-use mathlib.Core.Bool.{Bool}
+use mathlib.Core.Bool.{Bool, true, false, false≢true}
+use mathlib.Core.Logic.{⊎-elim, inl, inr}
 use mathlib.Core.List.{List}
-use Prim.Native.Nat.{ℕ, _≤_}
-use lib.ListN.{length}
+use Prim.Native.Nat.{ℕ, _+_, _*_, _≤_, _<_}
+use native.Mathlib.Omega.{arith}
+use borrow.Author.Tests.{eqb-true}
+use lib.ListN.{length, getD}
+use lib.Seq.{getD-set-other}
 use Rattle.card.specs.declared.regs.Regs.{Regs}
+use Rattle.card.specs.declared.packets.Shape.{Shape}
+use Rattle.card.specs.declared.packets.Shape.the-variants.{Malformed, Short, Long}
+use Rattle.card.specs.declared.packets.Packet.{Packet}
 use Rattle.card.specs.Words.{clear}
 use Rattle.card.specs.Flags.{RI, RECON}
 use Rattle.card.specs.Fields.{with-status, with-diagnostic, with-nid}
 use Rattle.card.specs.Row.{regsOf, putRegs, awake}
-use Rattle.card.specs.Events.{recovered, heard, answered, risenNid, receiving}
-use Rattle.card.specs.Bystander.{SameBut, Bystander}
+use Rattle.card.specs.Packets.{dataAt, pageBytes, pageAt, stored, stamped}
+use Rattle.card.specs.Events.{recovered, heard, answered, risenNid, receiving, receivePage, storable}
+use Rattle.card.specs.Bystander.{SameBut, Bystander, OutsidePage, Spares}
 use Rattle.card.proofs.Bools.{pick-of}
 use Rattle.card.proofs.Masks.{raise-other}
 use Rattle.card.proofs.Rows.{put-mark, put-rest, regs-put}
+use Rattle.card.proofs.Pages.{stored-outside}
 
 -- ---- the registers
 but-with : (g : Regs) (status diagnostic nid : ℕ) → SameBut g (with-status status (with-diagnostic diagnostic (with-nid nid g)))
@@ -91,3 +100,35 @@ bystander-then r s t a b = record {
 
 pub bystander-put : (r : List ℕ) (g : Regs) → 16 ≤ length r → SameBut (regsOf r) g → Bystander r (putRegs r g)
 bystander-put r g h b = record { mark = put-mark r g; registers = rw (regs-put r g h) b; behind = put-rest r g }
+
+-- ---- the RAM outside the receive page
+same-outside : (g h : Regs) → SameBut g h → (i : ℕ) → OutsidePage g i → OutsidePage h i
+unfolding receivePage
+same-outside g h b i o = rw (b .receive, b .long) o
+
+module _ (r s t : List ℕ) where
+  pub spares-after : Bystander r s → Spares s t → Spares r t
+  spares-after a b i h o = b i h (same-outside (regsOf r) (regsOf s) (a .registers) i o) ∙ a .behind i h
+
+  pub spares-then : Spares r s → Bystander s t → Spares r t
+  spares-then a b i h o = b .behind i h ∙ a i h o
+
+-- a packet that can be stored is no longer than the page
+pub storable-bytes : (g : Regs) (s : Shape) → storable g s ≡ true → pageBytes s ≤ 256 * (1 + g .long)
+unfolding storable
+storable-bytes g Malformed e = absurd (false≢true e)
+storable-bytes g (Short c) e = omega arith
+storable-bytes g (Long c) e = omega (arith, eqb-true (g .long) 1 e)
+
+module _ (r : List ℕ) (k : Packet) (room : pageAt (receivePage (regsOf r)) + pageBytes (k .shape) ≤ length r) (full : 512 ≤ length (k .bytes)) (count : dataAt (k .shape) < 256)
+    (can : storable (regsOf r) (k .shape) ≡ true) where
+  pub spares-stored : (g : Regs) → Spares r (putRegs (stored r (receivePage (regsOf r)) k) g)
+  spares-stored g i h o =
+      let b = storable-bytes (regsOf r) (k .shape) can in
+      put-rest (stored r (receivePage (regsOf r)) k) g i h
+      ∙ stored-outside r (receivePage (regsOf r)) k room full count i (⊎-elim (λ l. inl l) (λ l. inr (omega arith)) o)
+
+-- ---- the RAM of a card that sends
+pub stamped-other : (r : List ℕ) (p i : ℕ) → (i ≡ pageAt p → ⊥) → getD (stamped r p) i 0 ≡ getD r i 0
+unfolding stamped
+stamped-other r p i n = getD-set-other r (pageAt p) i (regsOf r .id) 0 (λ e. n e)

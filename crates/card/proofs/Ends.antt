@@ -1,13 +1,13 @@
 -- TA, TMA and byte 13 of a card whose transmit waits, has ended, or is cancelled.
 -- Assumes nothing.
-use mathlib.Core.Path.{_≡_, refl, _∙_, ap}
-use mathlib.Core.Bool.{Bool, true, false, not, _||_}
+use mathlib.Core.Path.{_≡_, refl, sym, _∙_, ap}
+use mathlib.Core.Bool.{Bool, true, false, not, _||_, false≢true}
 use borrow.Author.Tests.{eqb-true}
 use lib.Dec.{lit<}
 use Rattle.card.specs.declared.regs.Regs.{Regs}
 use Rattle.card.specs.Words.{clear, has, raise, lower}
 use Rattle.card.specs.Flags.{RI, TMA, TA, CANCEL}
-use Rattle.card.specs.Events.{heard, received, transmitCancelled, cancelled, sent, transmitting}
+use Rattle.card.specs.Events.{heard, received, transmitCancelled, receiveCancelled, cancelled, sent, transmitting, transmitPage}
 use Rattle.card.proofs.Bools.{pick-of}
 use Rattle.card.proofs.Masks.{lower-clears, raise-other, raise-sets}
 use Rattle.card.proofs.Fits.{Fit}
@@ -70,3 +70,18 @@ unfolding cancelled
 cancelled-tma g =
     let h = transmitCancelled g in
     pick-of (λ (k : Regs). has TMA (k .status) ≡ has TMA (h .status)) (clear CANCEL (h .receive)) (λ _. refl) (λ _. received-tma h) ∙ cancelled-transmit g
+
+-- ---- a transmit that still waits after the cancels was not cancelled
+cancelled-page : (g : Regs) → transmitting (cancelled g) ≡ true → cancelled g .transmit ≡ g .transmit
+unfolding cancelled transmitting received
+cancelled-page g =
+    let P : Regs → Regs → Type 0 = λ k x. clear TA (x .status) ≡ true → x .transmit ≡ k .transmit in
+    pick-of (λ (h : Regs). clear TA (receiveCancelled h .status) ≡ true → receiveCancelled h .transmit ≡ g .transmit) (clear CANCEL (g .transmit))
+    (λ _. pick-of (P g) (clear CANCEL (g .receive)) (λ _ _. refl) (λ _ _. refl))
+    (λ _. pick-of (λ (x : Regs). clear TA (x .status) ≡ true → x .transmit ≡ g .transmit) (clear CANCEL (g .receive))
+    (λ _ e. absurd (false≢true (sym (raise-sets TA TA (g .status) (lit< tt)) ∙ e)))
+    (λ _ e. absurd (false≢true (sym (raise-other TA RI (raise TA (g .status)) refl ∙ raise-sets TA TA (g .status) (lit< tt)) ∙ e))))
+
+pub page-of : (g : Regs) → transmitting (cancelled g) ≡ true → transmitPage (cancelled g) ≡ transmitPage g
+unfolding transmitPage
+page-of g e = rw (cancelled-page g e)

@@ -1,11 +1,14 @@
--- Document 01, "One line step": a card that neither sends a packet nor stores one.
+-- Document 01, "One line step": a card that neither sends a packet nor stores one, a card that may store one, and one that may send one.
 -- Assumes nothing.
 use mathlib.Core.Path.{_≡_}
 use mathlib.Core.List.{List}
-use Prim.Native.Nat.{ℕ, _≤_, _<_}
+use mathlib.Core.Logic.{_⊎_}
+use Prim.Native.Nat.{ℕ, _+_, _*_, _≤_, _<_}
 use lib.ListN.{getD}
 use Rattle.card.specs.declared.regs.Regs.{Regs}
 use Rattle.card.specs.Row.{regsOf}
+use Rattle.card.specs.Packets.{pageAt}
+use Rattle.card.specs.Events.{transmitPage, receivePage}
 
 -- the registers but for status, diagnostic status and NID
 pub record SameBut (g h : Regs) : Type 0 where
@@ -26,3 +29,15 @@ pub record Bystander (r s : List ℕ) : Type 0 where
   pub mark : (i : ℕ) → i < 2 → getD s i 0 ≡ getD r i 0
   pub registers : SameBut (regsOf r) (regsOf s)
   pub behind : (i : ℕ) → 16 ≤ i → getD s i 0 ≡ getD r i 0
+
+-- a place that is not in the receive page, which has 512 bytes where long packets are 1
+abbrev pub OutsidePage : Regs → ℕ → Type 0
+OutsidePage g i = (i < pageAt (receivePage g)) ⊎ (pageAt (receivePage g) + 256 * (1 + g .long) ≤ i)
+
+-- a card that may store a packet: behind its registers, all that is outside the receive page is as it was
+abbrev pub Spares : List ℕ → List ℕ → Type 0
+Spares r s = (i : ℕ) → 16 ≤ i → OutsidePage (regsOf r) i → getD s i 0 ≡ getD r i 0
+
+-- a card that may send a packet: behind its registers, all but byte 0 of the transmit page is as it was
+abbrev pub Sends : List ℕ → List ℕ → Type 0
+Sends r s = (i : ℕ) → 16 ≤ i → (i ≡ pageAt (transmitPage (regsOf r)) → ⊥) → getD s i 0 ≡ getD r i 0

@@ -12,7 +12,8 @@ use Rattle.line.proofs.Refused.{read-refused, write-refused, reset-refused, tim
 use Rattle.line.proofs.Alike.{bytes-rams}
 use Rattle.line.proofs.Others.{read-only, read-header, write-only, reset-only, timer-only}
 use Rattle.line.proofs.Frames.{frame-step}
-use Rattle.line.proofs.Bystanding.{bystands}
+use Rattle.line.proofs.Bystanding.{bystands, spares}
+use Rattle.line.proofs.HolderRam.{sends}
 use Rattle.line.proofs.HolderLeft.{holder-left}
 use Rattle.line.proofs.Faults.{idle-fault}
 use Rattle.card.proofs.CardSums.{data-sizes}
@@ -58,7 +59,8 @@ no-other-row = record {
   reset = reset-only;
   timer = timer-only;
   step-frame = λ net b s. frame-step net s (bytes-rams net s b);
-  step-row = λ net b s. bystands net s (bytes-rams net s b);
+  step-row = λ net b s fault j l n. let r = bytes-rams net s b in (spares net s r fault j l n, bystands net s r fault j l n);
+  step-holder = λ net b s. sends net s (bytes-rams net s b);
 }
 
 pub outcomes-say : OutcomesSay

@@ -7,7 +7,7 @@ use Prim.Native.Nat.{ℕ, _+_, _*_, _≤_, _<_}
 use lib.ListN.{length, getD}
 use Rattle.card.specs.Packets.{shapeOf, dataBytes, CanBeSent, malformed}
 use Rattle.card.specs.Events.{receiving}
-use Rattle.card.specs.Bystander.{Bystander}
+use Rattle.card.specs.Bystander.{Bystander, Spares, Sends}
 use Rattle.line.specs.declared.traffic.Outcome.{Outcome}
 use Rattle.line.specs.declared.step.Answer.the-variants.{Held}
 use Rattle.line.specs.Network.{headerBytes, rowLimit, rows, phase, holder, TAKEN, rowAt, regsAt, shape, SameFrame, OnlyRow}
@@ -38,9 +38,10 @@ pub record RefusalsChangeNothing : Type 0 where
   pub walk : (net : List ℕ) (room : ℕ) → Refused (lapNumber net room) → (lapped net room .total ≡ 0) × ((netAfterLap net room ≡ net) × (lapTakers net room ≡ []))
   pub lap : (net : List ℕ) (list : List Taker) → Refused (lapNumber net (length list)) → listAfterLap net list ≡ list
 
--- ---- demand 2, "no other byte moves": a call that names a row changes, but for phase and holder, that row alone, and a read leaves these too; a step leaves
--- the length and, but for phase and holder, the header, and changes of a row that is not the holder in TAKEN, and stores no packet (its RI stays), the status,
--- the diagnostic status and the NID alone
+-- ---- demand 2, "no other byte moves": a call that names a row changes, but for phase and holder, that row alone, and a read leaves these too. A step leaves
+-- the length and, but for phase and holder, the header. Of a row that is not the holder in TAKEN it leaves all behind the registers that is outside the receive
+-- page and, where no packet is stored (RI stays), all but status, diagnostic status and NID; of the holder in TAKEN all behind the registers but byte 0 of the
+-- transmit page
 pub record NoOtherRow : Type 0 where
   pub read : (net : List ℕ) (k g : ℕ) → OnlyRow net (netAfterRead net k g) k
   pub read-header : (net : List ℕ) (k g i : ℕ) → i < headerBytes → getD (netAfterRead net k g) i 0 ≡ getD net i 0
@@ -49,7 +50,10 @@ pub record NoOtherRow : Type 0 where
   pub timer : (net : List ℕ) (k : ℕ) → OnlyRow net (netAfterTimer net k) k
   pub step-frame : (net : List ℕ) → ((i : ℕ) → getD net i 0 < 256) → shape net ≡ true → (fault : ℕ) → SameFrame net (step net fault .after)
   pub step-row : (net : List ℕ) → ((i : ℕ) → getD net i 0 < 256) → shape net ≡ true → (fault j : ℕ) → j < rows net → (phase net ≡ TAKEN → j ≡ holder net → ⊥)
-      → receiving (regsAt (step net fault .after) j) ≡ receiving (regsAt net j) → Bystander (rowAt net j) (rowAt (step net fault .after) j)
+      → Spares (rowAt net j) (rowAt (step net fault .after) j)
+      × (receiving (regsAt (step net fault .after) j) ≡ receiving (regsAt net j) → Bystander (rowAt net j) (rowAt (step net fault .after) j))
+  pub step-holder : (net : List ℕ) → ((i : ℕ) → getD net i 0 < 256) → shape net ≡ true → phase net ≡ TAKEN → (fault : ℕ)
+      → Sends (rowAt net (holder net)) (rowAt (step net fault .after) (holder net))
 
 -- ---- the values that document 01 gives for each outcome: the holder's TA, TMA and byte 13 after a step that answers Held
 abbrev pub OutcomesSay : Type 0

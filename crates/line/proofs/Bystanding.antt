@@ -4,7 +4,7 @@ use mathlib.Core.Path.{_≡_, _∙_, ap}
 use mathlib.Core.Bool.{Bool, true, false, _&&_}
 use mathlib.Core.List.{List}
 use mathlib.Core.Logic.{inr, ⊎-elim}
-use Prim.Native.Nat.{ℕ, _≤_, _<_}
+use Prim.Native.Nat.{ℕ, _+_, _≤_, _<_}
 use native.Mathlib.Omega.{arith}
 use lib.Dec.{eqb, ltb, lit<}
 use lib.ListN.{length}
@@ -14,13 +14,15 @@ use Rattle.card.specs.declared.packets.Packet.{Packet}
 use Rattle.line.specs.declared.passes.Event.the-variants.{Message}
 use Rattle.line.specs.declared.traffic.Outcome.{Outcome}
 use Rattle.line.specs.declared.step.Answer.{Answer}
-use Rattle.card.specs.Row.{rowBytes, regsOf}
-use Rattle.card.specs.Packets.{malformed, pageShape, destination, packetAt, dataAt, stored}
+use Rattle.card.specs.Row.{rowBytes, regsOf, wellFormed}
+use Rattle.card.specs.Packets.{malformed, pageShape, destination, packetAt, dataAt, pageBytes, pageAt, stored}
 use Rattle.card.specs.Events.{received, cancelled, transmitting, receiving, transmitPage, receivePage, storable}
-use Rattle.card.specs.Bystander.{Bystander}
+use Rattle.card.specs.Bystander.{Bystander, Spares}
 use Rattle.card.proofs.Bools.{and-left, and-right, pick-of}
-use Rattle.card.proofs.Rows.{length-put, regs-put}
-use Rattle.card.proofs.Traffic.{received-ends, transmit-page-small}
+use Rattle.card.proofs.Rows.{length-put, regs-put, well-fit}
+use Rattle.card.proofs.Fits.{fit-rules}
+use Rattle.card.proofs.Bystanders.{spares-stored}
+use Rattle.card.proofs.Traffic.{received-ends, receive-room, transmit-page-small}
 use Rattle.card.proofs.PacketLaws.{Ram, packet-full, packet-count}
 use Rattle.card.proofs.Rams.{Small, packet-bytes}
 use Rattle.line.specs.Network.{rows, phase, holder, LOST, PASS, TAKEN, rowAt, setRow, regsAt, nodeOf, shape}
@@ -66,10 +68,16 @@ module _ (h : ℕ) where
 
   -- a packet that reaches the rows: where it is stored, RI was 0 and is 1
   module _ (k : Packet) (full : 512 ≤ length (k .bytes)) (count : dataAt (k .shape) < 256) (small : Small (k .bytes)) (to : ℕ) (broadcast : Bool) where
-    watches-stored : (r : List ℕ) → length (storedRow r k) ≡ rowBytes → Receives r ≡ true → Watches r (storedRow r k)
-    watches-stored r l a =
+    watches-stored : (r : List ℕ) → length r ≡ rowBytes → wellFormed r ≡ true → Receives r ≡ true → storable (regsOf r) (k .shape) ≡ true
+        → length (storedRow r k) ≡ rowBytes → Watches r (storedRow r k)
+    watches-stored r l w a b e =
         let m = stored r (receivePage (regsOf r)) k in
-        inr (a, ap receiving (regs-put m (received (regsOf m)) (omega (arith, length-put m (received (regsOf m))))) ∙ received-ends (regsOf m))
+        let room : pageAt (receivePage (regsOf r)) + pageBytes (k .shape) ≤ length r = omega (arith, l, receive-room (regsOf r) (fit-rules (regsOf r) (well-fit r w)) a (k .shape) b) in
+        inr (
+          a,
+          ap receiving (regs-put m (received (regsOf m)) (omega (arith, length-put m (received (regsOf m))))) ∙ received-ends (regsOf m),
+          spares-stored r k room full count b (received (regsOf m)),
+        )
 
     aside-carried : (net : List ℕ) → shape net ≡ true → Aside h net (carried net h to broadcast k)
     unfolding carried
@@ -81,7 +89,7 @@ module _ (h : ℕ) where
         let b = storable (regsOf r) (k .shape) in (
           e,
           pick-of (λ (x : List ℕ). length x ≡ rowBytes → Watches r x) (t && Receives r && b)
-              (λ z m. watches-stored r m (and-right t (Receives r) (and-left (t && Receives r) b z))) (λ _ _. watches-same r) e,
+              (λ z m. watches-stored r (shape-row-length net s j l) (shape-row net s j l) (and-right t (Receives r) (and-left (t && Receives r) b z)) (and-right (t && Receives r) b z) m) (λ _ _. watches-same r) e,
         )))
 
   -- ---- the turns of TAKEN
@@ -159,3 +167,6 @@ module _ (net : List ℕ) (s : shape net ≡ true) (b : Rams net) (fault j : ℕ
 
   pub bystands : receiving (regsAt (step net fault .after) j) ≡ receiving (regsAt net j) → Bystander (rowAt net j) (rowAt (step net fault .after) j)
   bystands e = ⊎-elim (λ a. a .0) (λ a. absurd (clash (e ∙ a .0) (a .1))) watches-step
+
+  pub spares : Spares (rowAt net j) (rowAt (step net fault .after) j)
+  spares = ⊎-elim (λ a i h _. a .0 .behind i h) (λ a. a .2) watches-step

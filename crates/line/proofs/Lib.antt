@@ -39,3 +39,4 @@ pub mod Bystanding
 pub mod Faults
 pub mod Frames
 pub mod HolderLeft
+pub mod HolderRam

@@ -16,10 +16,10 @@ use Rattle.line.specs.declared.step.Answer.{Answer}
 use Rattle.card.specs.Row.{rowBytes, regsOf, putRegs}
 use Rattle.card.specs.Packets.{stored}
 use Rattle.card.specs.Events.{risenNid, receiving}
-use Rattle.card.specs.Bystander.{Bystander}
+use Rattle.card.specs.Bystander.{Bystander, Spares}
 use Rattle.card.proofs.Bools.{pick-of}
 use Rattle.card.proofs.Rows.{length-put, regs-put}
-use Rattle.card.proofs.Bystanders.{Reached, reached-same, reached-recovered, reached-heard, reached-answered, reached-risen, bystander-same, bystander-then, bystander-put}
+use Rattle.card.proofs.Bystanders.{Reached, reached-same, reached-recovered, reached-heard, reached-answered, reached-risen, bystander-same, bystander-then, bystander-put, spares-after, spares-then}
 use Rattle.line.specs.Network.{rows, holder, LOST, PASS, TAKEN, turned, rowAt, onRegs, regsAt, topId, shape}
 use Rattle.line.specs.Traffic.{Turn, onRow, happens, happened}
 use Rattle.line.specs.Step.{destroyed, lostTurn, invited, taker, passTurn}
@@ -35,15 +35,15 @@ abbrev pub Receives : List ℕ → Bool
 Receives r = receiving (regsOf r)
 
 abbrev pub Watches : List ℕ → List ℕ → Type 0
-Watches r s = (Bystander r s × (Receives s ≡ Receives r)) ⊎ ((Receives r ≡ true) × (Receives s ≡ false))
+Watches r s = (Bystander r s × (Receives s ≡ Receives r)) ⊎ ((Receives r ≡ true) × (Receives s ≡ false) × Spares r s)
 
 pub watches-same : (r : List ℕ) → Watches r r
 watches-same r = inl (bystander-same r, refl)
 
 pub watches-then : (r s t : List ℕ) → Watches r s → Watches s t → Watches r t
 watches-then r s t (inl a) (inl b) = inl (bystander-then r s t (a .0) (b .0), b .1 ∙ a .1)
-watches-then r s t (inl a) (inr b) = inr (sym (a .1) ∙ b .0, b .1)
-watches-then r s t (inr a) (inl b) = inr (a .0, b .1 ∙ a .1)
+watches-then r s t (inl a) (inr b) = inr (sym (a .1) ∙ b .0, b .1, spares-after r s t (a .0) (b .2))
+watches-then r s t (inr a) (inl b) = inr (a .0, b .1 ∙ a .1, spares-then r s t (a .2) (b .0))
 watches-then r s t (inr a) (inr b) = absurd (clash (b .0) (a .1))
 
 watches-put : (r : List ℕ) → length r ≡ rowBytes → (g : Regs) → Reached (regsOf r) g → Watches r (putRegs r g)
