@@ -6,7 +6,7 @@ use mathlib.Core.List.{List}
 use mathlib.Core.Logic.{inr, ⊎-elim}
 use Prim.Native.Nat.{ℕ, _+_, _≤_, _<_}
 use native.Mathlib.Omega.{arith}
-use lib.Dec.{eqb, ltb, lit<}
+use lib.Dec.{eqb, lit<}
 use lib.ListN.{length}
 use borrow.Author.Tests.{eqb-false}
 use Rattle.card.specs.declared.regs.Regs.{Regs}
@@ -15,7 +15,7 @@ use Rattle.line.specs.declared.passes.Event.the-variants.{Message}
 use Rattle.line.specs.declared.traffic.Outcome.{Outcome}
 use Rattle.line.specs.declared.step.Answer.{Answer}
 use Rattle.card.specs.Row.{rowBytes, regsOf, wellFormed}
-use Rattle.card.specs.Packets.{malformed, pageShape, destination, packetAt, dataAt, pageBytes, pageAt, stored}
+use Rattle.card.specs.Packets.{dataAt, pageBytes, pageAt, stored}
 use Rattle.card.specs.Events.{received, cancelled, transmitting, receiving, transmitPage, receivePage, storable}
 use Rattle.card.specs.Bystander.{Bystander, Spares}
 use Rattle.card.proofs.Bools.{and-left, and-right, pick-of}
@@ -23,22 +23,22 @@ use Rattle.card.proofs.Rows.{length-put, regs-put, well-fit}
 use Rattle.card.proofs.Fits.{fit-rules}
 use Rattle.card.proofs.Bystanders.{spares-stored}
 use Rattle.card.proofs.Traffic.{received-ends, receive-room, transmit-page-small}
-use Rattle.card.proofs.PacketLaws.{Ram, packet-full, packet-count}
-use Rattle.card.proofs.Rams.{Small, packet-bytes}
-use Rattle.line.specs.Network.{rows, phase, holder, LOST, PASS, TAKEN, rowAt, setRow, regsAt, nodeOf, shape}
-use Rattle.line.specs.Traffic.{Turn, onRow, happened, storedRow, takes, carriedRow, carried, damaged, stampedNet, wentOut, broadcastTurn, packetTurn, enquiryTurn, tryTurn, takenTurn}
+use Rattle.card.proofs.Rams.{Small}
+use Rattle.line.specs.Network.{rows, phase, holder, LOST, PASS, TAKEN, rowAt, setRow, regsAt, shape}
+use Rattle.line.specs.Traffic.{Turn, onRow, storedRow, takes, carriedRow, carried, takenTurn}
 use Rattle.line.specs.Step.{stepTurn, stepNumber, step}
 use Rattle.line.proofs.Folds.{clash}
 use Rattle.line.proofs.Networks.{rowAt-turned, setRow-header, rowAt-setRow-other}
 use Rattle.card.proofs.Pages.{length-stamped}
 use Rattle.line.proofs.Shapes.{shape-within, shape-row, shape-row-length, shape-phase, shape-holder}
 use Rattle.line.proofs.ShapesKept.{Became, became-each}
-use Rattle.line.proofs.Became.{became-rows, shape-moved, shape-still, still-moved}
+use Rattle.line.proofs.Became.{became-rows, shape-still, still-moved}
 use Rattle.line.proofs.Alike.{Rams, alike-moved}
-use Rattle.line.proofs.StepsKeep.{moved-happened, still-onRow, still-stamped}
+use Rattle.line.proofs.StepsKeep.{still-onRow}
 use Rattle.line.proofs.RegsKeep.{stays-cancelled}
-use Rattle.line.proofs.TrafficKeep.{carried-still, still-wentOut}
+use Rattle.line.proofs.TrafficKeep.{carried-still}
 use Rattle.line.proofs.Watches.{Receives, Watches, watches-same, watches-then, watched-happened, watched-lost, watched-pass}
+use Rattle.line.proofs.TakenBy.{Changes, try-by}
 
 -- ---- TAKEN: every row but the holder h
 record Aside (h : ℕ) (net new : List ℕ) : Type 0 where
@@ -92,49 +92,14 @@ module _ (h : ℕ) where
               (λ z m. watches-stored r (shape-row-length net s j l) (shape-row net s j l) (and-right t (Receives r) (and-left (t && Receives r) b z)) (and-right (t && Receives r) b z) m) (λ _ _. watches-same r) e,
         )))
 
-  -- ---- the turns of TAKEN
-  module _ (net : List ℕ) (s : shape net ≡ true) (l : h < rows net) where
-    aside-heard : Aside h net (happened net (Message h false))
-    aside-heard = aside-became (watched-happened net s (Message h false))
-
-    aside-put : (new : List ℕ) → Aside h net new → shape new ≡ true → (f : Regs → Regs) → Aside h net (onRow new h f)
-    aside-put new a n f = aside-then a (aside-onRow new n (omega (arith, a .count)) f)
-
-    heard-put : (f : Regs → Regs) → Aside h net (onRow (happened net (Message h false)) h f)
-    heard-put f = aside-put _ aside-heard (shape-moved s (moved-happened net (Message h false) s)) f
-
-    module _ (b : Rams net) (p fault : ℕ) (small : p < 4) where
-      aside-wentOut : (to : ℕ) (broadcast : Bool) → Aside h net (wentOut net h p fault to broadcast)
-      unfolding wentOut
-      aside-wentOut to broadcast =
-          let m = stampedNet net h p in
-          let c = still-stamped net h s l p in
-          let sm = shape-still s c in
-          let a = aside-set net s l _ (length-stamped (rowAt net h) p ∙ shape-row-length net s h l) in
-          let d = aside-then a (aside-became (watched-happened m sm (Message h false))) in
-          let full = packet-full (rowAt m h) p (shape-row-length m sm h (omega (arith, became-rows c))) small in
-          let ram : Ram (rowAt m h) = c .row h l .moved .ram (b h l .1) (b h l .0) in
-          pick-of (Aside h net) (damaged fault) (λ _. d)
-          (λ _. aside-then d (aside-carried (packetAt (rowAt m h) p) (omega arith) (packet-count (rowAt m h) p ram) (packet-bytes (rowAt m h) ram p) to broadcast
-          _ (shape-moved sm (moved-happened m (Message h false) sm))))
-
-      aside-packet : (to : ℕ) (broadcast : Bool) (f : Regs → Regs) → Aside h net (onRow (wentOut net h p fault to broadcast) h f)
-      aside-packet to broadcast f = aside-put _ (aside-wentOut to broadcast) (shape-still s (still-wentOut net s h l b p fault small to broadcast)) f
-
-      abbrev After : Turn Outcome → Type 0
-      After x = Aside h net (x .after)
-
-      aside-enquiry : (t : ℕ) → After (enquiryTurn net h p fault t)
-      unfolding enquiryTurn packetTurn
-      aside-enquiry t =
-          pick-of After (ltb t (rows net)) (λ _. pick-of After (receiving (regsAt net t)) (λ _. aside-packet t false _) (λ _. heard-put _)) (λ _. heard-put _)
-
-      aside-try : After (tryTurn net h p fault)
-      unfolding tryTurn broadcastTurn
-      aside-try =
-          pick-of After (malformed (pageShape (rowAt net h) p)) (λ _. aside-onRow net s l _)
-          (λ _. pick-of After (eqb (destination (rowAt net h) p) 0) (λ _. aside-packet (rows net) true _)
-          (λ _. aside-enquiry (nodeOf net (destination (rowAt net h) p) h (rows net))))
+  aside-changes : (p : ℕ) → Changes (Aside h) h p
+  aside-changes p = record {
+    after = aside-then;
+    regs = aside-onRow;
+    heard = λ net s _. aside-became (watched-happened net s (Message h false));
+    stamp = λ net s l. aside-set net s l _ (length-stamped (rowAt net h) p ∙ shape-row-length net s h l);
+    carry = λ net s _ k full count small to broadcast _. aside-carried k full count small to broadcast net s;
+  }
 
   aside-taken : (net : List ℕ) → shape net ≡ true → Rams net → h < rows net → (fault : ℕ) → Aside h net (takenTurn net h fault .after)
   unfolding takenTurn
@@ -143,8 +108,7 @@ module _ (h : ℕ) where
       let a = aside-onRow net s l cancelled in
       let c = still-onRow net h s l cancelled stays-cancelled in
       pick-of (λ (x : Turn Outcome). Aside h net (x .after)) (transmitting (regsAt m h))
-      (λ _. aside-then a (aside-try m (shape-still s c) (omega (arith, a .count)) (alike-moved net s b m (still-moved c) .rams)
-      (transmitPage (regsAt m h)) fault (transmit-page-small (regsAt m h))))
+      (λ _. aside-then a (try-by (Aside h) h (transmitPage (regsAt m h)) (aside-changes (transmitPage (regsAt m h))) m (shape-still s c) (omega (arith, a .count)) (alike-moved net s b m (still-moved c) .rams) fault (transmit-page-small (regsAt m h))))
       (λ _. a)
 
 -- ---- a step

@@ -35,6 +35,7 @@ pub mod Calm
 pub mod Refused
 pub mod Others
 pub mod Watches
+pub mod TakenBy
 pub mod Bystanding
 pub mod Faults
 pub mod Frames
