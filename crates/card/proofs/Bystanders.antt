@@ -1,7 +1,7 @@
 -- A card that a message or a recovery reaches is a bystander: only its status, its diagnostic status and its NID may change.
 -- Assumes nothing.
-use mathlib.Core.Path.{_≡_, refl, _∙_}
-use mathlib.Core.Bool.{Bool, true, false, false≢true}
+use mathlib.Core.Path.{_≡_, refl, sym, _∙_}
+use mathlib.Core.Bool.{Bool, true, false≢true}
 use mathlib.Core.Logic.{⊎-elim, inl, inr}
 use mathlib.Core.List.{List}
 use Prim.Native.Nat.{ℕ, _+_, _*_, _≤_, _<_}
@@ -16,14 +16,17 @@ use Rattle.card.specs.declared.packets.Packet.{Packet}
 use Rattle.card.specs.Words.{clear}
 use Rattle.card.specs.Flags.{RI, RECON}
 use Rattle.card.specs.Fields.{with-status, with-diagnostic, with-nid}
-use Rattle.card.specs.Row.{regsOf, putRegs, awake}
-use Rattle.card.specs.Packets.{dataAt, pageBytes, pageAt, stored, stamped}
-use Rattle.card.specs.Events.{recovered, heard, answered, risenNid, receiving, receivePage, storable}
-use Rattle.card.specs.Bystander.{SameBut, Bystander, OutsidePage, Spares}
+use Rattle.card.specs.Row.{rowBytes, regsOf, putRegs, awake}
+use Rattle.card.specs.Packets.{dataAt, pageBytes, pageAt, pageShape, packetAt, stored, stamped}
+use Rattle.card.specs.Events.{recovered, heard, answered, risenNid, received, receiving, takesBroadcasts, receivePage, storable}
+use Rattle.card.specs.Bystander.{SameBut, Bystander, OutsidePage, Spares, Storing}
 use Rattle.card.proofs.Bools.{pick-of}
+use Rattle.card.proofs.Kept.{awake-same}
+use Rattle.card.proofs.Traffic.{received-ends, received-page}
 use Rattle.card.proofs.Masks.{raise-other}
 use Rattle.card.proofs.Rows.{put-mark, put-rest, regs-put}
 use Rattle.card.proofs.Pages.{stored-outside}
+use Rattle.card.proofs.Stays.{regs-stamped}
 
 -- ---- the registers
 but-with : (g : Regs) (status diagnostic nid : ℕ) → SameBut g (with-status status (with-diagnostic diagnostic (with-nid nid g)))
@@ -87,6 +90,18 @@ module _ (g : Regs) where
   unfolding risenNid receiving
   reached-risen = record { but = but-with g _ _ _; receives = refl }
 
+-- and so whether it takes a broadcast, and what it can store
+module _ (g h : Regs) (b : SameBut g h) where
+  pub takes-same : receiving h ≡ receiving g → takesBroadcasts h ≡ takesBroadcasts g
+  unfolding takesBroadcasts
+  takes-same e = rw (awake-same g h (b .id) (b .configuration), e, b .receive)
+
+  pub storable-same : (s : Shape) → storable h s ≡ storable g s
+  unfolding storable
+  storable-same Malformed = refl
+  storable-same (Short c) = refl
+  storable-same (Long c) = rw (b .long)
+
 -- ---- the row
 pub bystander-same : (r : List ℕ) → Bystander r r
 bystander-same r = record { mark = λ i h. refl; registers = but-same (regsOf r); behind = λ i h. refl }
@@ -106,12 +121,23 @@ same-outside : (g h : Regs) → SameBut g h → (i : ℕ) → OutsidePage g i �
 unfolding receivePage
 same-outside g h b i o = rw (b .receive, b .long) o
 
+-- a bystander, before and after, of a card that stores a packet
 module _ (r s t : List ℕ) where
-  pub spares-after : Bystander r s → Spares s t → Spares r t
-  spares-after a b i h o = b i h (same-outside (regsOf r) (regsOf s) (a .registers) i o) ∙ a .behind i h
+  pub stores-after : Bystander r s → receiving (regsOf s) ≡ receiving (regsOf r) → Storing s t → Storing r t
+  stores-after a e b = record {
+    waited = sym e ∙ b .waited;
+    filled = b .filled;
+    ended = b .ended;
+    spares = λ i h o. b .spares i h (same-outside (regsOf r) (regsOf s) (a .registers) i o) ∙ a .behind i h;
+  }
 
-  pub spares-then : Spares r s → Bystander s t → Spares r t
-  spares-then a b i h o = b .behind i h ∙ a i h o
+  pub stores-then : Storing r s → Bystander s t → receiving (regsOf t) ≡ receiving (regsOf s) → Storing r t
+  stores-then a b e = record {
+    waited = a .waited;
+    filled = e ∙ a .filled;
+    ended = b .registers .receive ∙ a .ended;
+    spares = λ i h o. b .behind i h ∙ a .spares i h o;
+  }
 
 -- a packet that can be stored is no longer than the page
 pub storable-bytes : (g : Regs) (s : Shape) → storable g s ≡ true → pageBytes s ≤ 256 * (1 + g .long)
@@ -122,13 +148,30 @@ storable-bytes g (Long c) e = omega (arith, eqb-true (g .long) 1 e)
 
 module _ (r : List ℕ) (k : Packet) (room : pageAt (receivePage (regsOf r)) + pageBytes (k .shape) ≤ length r) (full : 512 ≤ length (k .bytes)) (count : dataAt (k .shape) < 256)
     (can : storable (regsOf r) (k .shape) ≡ true) where
-  pub spares-stored : (g : Regs) → Spares r (putRegs (stored r (receivePage (regsOf r)) k) g)
+  abbrev with-packet : List ℕ
+  with-packet = stored r (receivePage (regsOf r)) k
+
+  spares-stored : (g : Regs) → Spares r (putRegs with-packet g)
   spares-stored g i h o =
       let b = storable-bytes (regsOf r) (k .shape) can in
-      put-rest (stored r (receivePage (regsOf r)) k) g i h
-      ∙ stored-outside r (receivePage (regsOf r)) k room full count i (⊎-elim (λ l. inl l) (λ l. inr (omega arith)) o)
+      put-rest with-packet g i h ∙ stored-outside r (receivePage (regsOf r)) k room full count i (⊎-elim (λ l. inl l) (λ l. inr (omega arith)) o)
+
+  pub stores-stored : 16 ≤ length with-packet → receiving (regsOf r) ≡ true → Storing r (putRegs with-packet (received (regsOf with-packet)))
+  stores-stored l w =
+      let e = regs-put with-packet (received (regsOf with-packet)) l in record {
+        waited = w;
+        filled = rw e (received-ends (regsOf with-packet));
+        ended = rw e (received-page (regsOf with-packet));
+        spares = spares-stored _;
+      }
 
 -- ---- the RAM of a card that sends
 pub stamped-other : (r : List ℕ) (p i : ℕ) → (i ≡ pageAt p → ⊥) → getD (stamped r p) i 0 ≡ getD r i 0
 unfolding stamped
 stamped-other r p i n = getD-set-other r (pageAt p) i (regsOf r .id) 0 (λ e. n e)
+
+-- its packet has the shape that the page had: COUNT stands past the byte that is written
+pub stamped-shape : (r : List ℕ) → length r ≡ rowBytes → (p : ℕ) → packetAt (stamped r p) p .shape ≡ pageShape r p
+unfolding packetAt pageShape
+stamped-shape r l p =
+    rw (stamped-other r p (pageAt p + 2) (λ e. omega arith), stamped-other r p (pageAt p + 3) (λ e. omega arith), regs-stamped r l p)

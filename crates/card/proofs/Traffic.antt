@@ -41,6 +41,10 @@ module _ (g : Regs) where
   unfolding receiving received
   received-ends = raise-sets RI RI (g .status) (lit< tt)
 
+  pub received-page : received g .receive ≡ 0
+  unfolding received
+  received-page = refl
+
   pub received-transmitting : transmitting (received g) ≡ transmitting g
   unfolding transmitting received
   received-transmitting = raise-other TA RI (g .status) refl

@@ -1,6 +1,7 @@
--- Document 01, "One line step": a card that neither sends a packet nor stores one, a card that may store one, and one that may send one.
+-- Document 01, "One line step": a card that neither sends a packet nor stores one, a card that stores one, and one that may send one.
 -- Assumes nothing.
 use mathlib.Core.Path.{_≡_}
+use mathlib.Core.Bool.{true, false}
 use mathlib.Core.List.{List}
 use mathlib.Core.Logic.{_⊎_}
 use Prim.Native.Nat.{ℕ, _+_, _*_, _≤_, _<_}
@@ -8,7 +9,7 @@ use lib.ListN.{getD}
 use Rattle.card.specs.declared.regs.Regs.{Regs}
 use Rattle.card.specs.Row.{regsOf}
 use Rattle.card.specs.Packets.{pageAt}
-use Rattle.card.specs.Events.{transmitPage, receivePage}
+use Rattle.card.specs.Events.{receiving, transmitPage, receivePage}
 
 -- the registers but for status, diagnostic status and NID
 pub record SameBut (g h : Regs) : Type 0 where
@@ -37,6 +38,13 @@ OutsidePage g i = (i < pageAt (receivePage g)) ⊎ (pageAt (receivePage g) + 256
 -- a card that may store a packet: behind its registers, all that is outside the receive page is as it was
 abbrev pub Spares : List ℕ → List ℕ → Type 0
 Spares r s = (i : ℕ) → 16 ≤ i → OutsidePage (regsOf r) i → getD s i 0 ≡ getD r i 0
+
+-- a card that stores a packet: RI was 0; "RI = 1, byte 14 zero", and it spares what is outside the receive page
+pub record Storing (r s : List ℕ) : Type 0 where
+  pub waited : receiving (regsOf r) ≡ true
+  pub filled : receiving (regsOf s) ≡ false
+  pub ended : regsOf s .receive ≡ 0
+  pub spares : Spares r s
 
 -- a card that may send a packet: behind its registers, all but byte 0 of the transmit page is as it was
 abbrev pub Sends : List ℕ → List ℕ → Type 0

@@ -14,7 +14,7 @@ use Rattle.line.specs.Step.{step, highest, answerValue}
 use Rattle.line.proofs.Folds.{seek-is, some-not}
 use Rattle.line.proofs.Shapes.{Held as IsHeld, shape-ids}
 use Rattle.line.proofs.Nodes.{node-online, node-id, nodeOf-found, online-id}
-use Rattle.line.proofs.StepShape.{highest-held}
+use Rattle.line.proofs.Holders.{highest-held}
 use Rattle.desk.specs.Lap.{nodes, after, answers, passed, firstHolder, back, lapSteps}
 use Rattle.line.proofs.View.{Rams, AfterLost, lost-step}
 use Rattle.desk.proofs.Ring.{Call, Took, Spoke, roster}

@@ -11,10 +11,9 @@ use borrow.Author.Tests.{ne-eqb}
 use Rattle.line.proofs.Refused.{read-refused, write-refused, reset-refused, timer-refused, interrupt-refused, data-refused, fresh-refused, step-refused}
 use Rattle.line.proofs.Alike.{bytes-rams}
 use Rattle.line.proofs.Others.{read-only, read-header, write-only, reset-only, timer-only}
-use Rattle.line.proofs.Frames.{frame-step}
-use Rattle.line.proofs.Bystanding.{bystands, spares}
-use Rattle.line.proofs.HolderRam.{sends}
-use Rattle.line.proofs.HolderLeft.{holder-left}
+use Rattle.line.proofs.StepBy.{frame-step}
+use Rattle.line.proofs.Bystanding.{fills, bystands}
+use Rattle.line.proofs.TheHolder.{sends, holder-left}
 use Rattle.line.proofs.Faults.{idle-fault}
 use Rattle.card.proofs.CardSums.{data-sizes}
 use Rattle.line.specs.Network.{rowLimit}
@@ -59,12 +58,12 @@ no-other-row = record {
   reset = reset-only;
   timer = timer-only;
   step-frame = λ net b s. frame-step net s (bytes-rams net s b);
-  step-row = λ net b s fault j l n. let r = bytes-rams net s b in (spares net s r fault j l n, bystands net s r fault j l n);
-  step-holder = λ net b s. sends net s (bytes-rams net s b);
+  step-row = λ net b s fault j l n. let r = bytes-rams net s b in (fills net s r fault j l n, bystands net s r fault j l n);
+  step-holder = λ net b s p. sends net p s (bytes-rams net s b);
 }
 
 pub outcomes-say : OutcomesSay
-outcomes-say net b s = holder-left net s (bytes-rams net s b)
+outcomes-say net b s p = holder-left net p s (bytes-rams net s b)
 
 pub idle-faults : IdleFaults
 idle-faults = idle-fault

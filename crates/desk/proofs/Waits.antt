@@ -10,7 +10,7 @@ use lib.ListN.{length}
 use Rattle.line.specs.Network.{rows, phase, holder, LOST, regsAt, onLineAt, topId, shape, SameNodes}
 use Rattle.line.specs.Step.{step, highest}
 use Rattle.line.proofs.Nodes.{node-id, nodeOf-found}
-use Rattle.line.proofs.StepShape.{highest-held}
+use Rattle.line.proofs.Holders.{highest-held}
 use Rattle.line.proofs.View.{Rams, alike-same, lost-step}
 use Rattle.desk.specs.Lap.{nodes, passed}
 use Rattle.desk.specs.Demand.{Call, Step, Read, Write, Reset, Look, table, steps, answersOf, Throughout}

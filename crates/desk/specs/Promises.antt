@@ -6,14 +6,13 @@ use mathlib.Core.List.{List, []}
 use Prim.Native.Nat.{ℕ, _+_, _*_, _≤_, _<_}
 use lib.ListN.{length, getD}
 use Rattle.card.specs.Packets.{shapeOf, dataBytes, CanBeSent, malformed}
-use Rattle.card.specs.Events.{receiving}
-use Rattle.card.specs.Bystander.{Bystander, Spares, Sends}
+use Rattle.card.specs.Bystander.{Bystander, Storing, Sends}
 use Rattle.line.specs.declared.traffic.Outcome.{Outcome}
 use Rattle.line.specs.declared.step.Answer.the-variants.{Held}
 use Rattle.line.specs.Network.{headerBytes, rowLimit, rows, phase, holder, TAKEN, rowAt, regsAt, shape, SameFrame, OnlyRow}
 use Rattle.line.specs.Calls.{placeNumber, netReading, netAfterRead, netWriteNumber, netAfterWrite, netAfterReset, timerNumber, netAfterTimer, netInterrupt, netData, netDataNumber, freshNumber, netAfterFresh}
 use Rattle.line.specs.Step.{step, answerNumber, answerValue}
-use Rattle.line.specs.Outcomes.{HolderLeft, meets}
+use Rattle.line.specs.Outcomes.{stores, HolderLeft, meets}
 use Rattle.desk.specs.declared.laps.Taker.{Taker}
 use Rattle.desk.specs.declared.laps.Lapped.{Lapped}
 use Rattle.desk.specs.Order.{records, orderFits, nameAt}
@@ -39,9 +38,9 @@ pub record RefusalsChangeNothing : Type 0 where
   pub lap : (net : List ℕ) (list : List Taker) → Refused (lapNumber net (length list)) → listAfterLap net list ≡ list
 
 -- ---- demand 2, "no other byte moves": a call that names a row changes, but for phase and holder, that row alone, and a read leaves these too. A step leaves
--- the length and, but for phase and holder, the header. Of a row that is not the holder in TAKEN it leaves all behind the registers that is outside the receive
--- page and, where no packet is stored (RI stays), all but status, diagnostic status and NID; of the holder in TAKEN all behind the registers but byte 0 of the
--- transmit page
+-- the length and, but for phase and holder, the header. A row that is not the holder in TAKEN stores the packet of the step or does not: one that does had RI 0
+-- and has RI 1 and byte 14 zero, and behind its registers it keeps all that is outside the receive page; one that does not keeps all but status, diagnostic
+-- status and NID. The holder in TAKEN keeps all behind the registers but byte 0 of the transmit page
 pub record NoOtherRow : Type 0 where
   pub read : (net : List ℕ) (k g : ℕ) → OnlyRow net (netAfterRead net k g) k
   pub read-header : (net : List ℕ) (k g i : ℕ) → i < headerBytes → getD (netAfterRead net k g) i 0 ≡ getD net i 0
@@ -50,12 +49,12 @@ pub record NoOtherRow : Type 0 where
   pub timer : (net : List ℕ) (k : ℕ) → OnlyRow net (netAfterTimer net k) k
   pub step-frame : (net : List ℕ) → ((i : ℕ) → getD net i 0 < 256) → shape net ≡ true → (fault : ℕ) → SameFrame net (step net fault .after)
   pub step-row : (net : List ℕ) → ((i : ℕ) → getD net i 0 < 256) → shape net ≡ true → (fault j : ℕ) → j < rows net → (phase net ≡ TAKEN → j ≡ holder net → ⊥)
-      → Spares (rowAt net j) (rowAt (step net fault .after) j)
-      × (receiving (regsAt (step net fault .after) j) ≡ receiving (regsAt net j) → Bystander (rowAt net j) (rowAt (step net fault .after) j))
+      → (stores net fault j ≡ true → Storing (rowAt net j) (rowAt (step net fault .after) j))
+      × (stores net fault j ≡ false → Bystander (rowAt net j) (rowAt (step net fault .after) j))
   pub step-holder : (net : List ℕ) → ((i : ℕ) → getD net i 0 < 256) → shape net ≡ true → phase net ≡ TAKEN → (fault : ℕ)
       → Sends (rowAt net (holder net)) (rowAt (step net fault .after) (holder net))
 
--- ---- the values that document 01 gives for each outcome: the holder's TA, TMA and byte 13 after a step that answers Held
+-- ---- the values that document 01 gives for each outcome: all the holder's registers after a step that answers Held, and so TA, TMA and byte 13
 abbrev pub OutcomesSay : Type 0
 OutcomesSay =
     (net : List ℕ) → ((i : ℕ) → getD net i 0 < 256) → shape net ≡ true → phase net ≡ TAKEN → (fault : ℕ) (o : Outcome) → step net fault .answer ≡ Held o

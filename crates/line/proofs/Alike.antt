@@ -13,11 +13,11 @@ use Rattle.card.specs.Row.{rowBytes}
 use Rattle.card.proofs.Bools.{cases}
 use Rattle.card.proofs.PacketLaws.{Ram}
 use Rattle.card.proofs.Rams.{Small, id-byte}
-use Rattle.line.specs.Network.{rowStart, rows, LOST, turned, rowAt, regsAt, onLineAt, shape}
+use Rattle.line.specs.Network.{rowStart, rows, turned, rowAt, regsAt, onLineAt, shape}
 use Rattle.line.proofs.Networks.{length-rowAt, getD-rowAt, rowAt-turned, rows-turned}
 use Rattle.line.proofs.Nodes.{online-same}
-use Rattle.line.proofs.Shapes.{Held, shape-within}
-use Rattle.line.proofs.ShapesKept.{Became, turned-lost, turned-held}
+use Rattle.line.proofs.Shapes.{shape-within}
+use Rattle.line.proofs.ShapesKept.{Became}
 use Rattle.line.proofs.Became.{Moved, became-rows, shape-moved, moved-online}
 
 -- ---- the bytes of a network are bytes, and so are those of a row
@@ -62,7 +62,7 @@ alike-then c d = record {
   online = λ k l. d .online k (omega (arith, c .count)) ∙ c .online k l;
 }
 
--- ---- what a network became, and it in another phase: nobody holds, or a row that was on line
+-- ---- what a network became, and it in another phase
 module _ (net : List ℕ) (s : shape net ≡ true) (b : Rams net) where
   pub alike-moved : (new : List ℕ) → Became Moved net new → Alike net new
   alike-moved new c = record {
@@ -74,7 +74,7 @@ module _ (net : List ℕ) (s : shape net ≡ true) (b : Rams net) where
     online = moved-online c;
   }
 
-  alike-turned : (new : List ℕ) (p h : ℕ) → Alike net new → shape (turned new p h) ≡ true → Alike net (turned new p h)
+  pub alike-turned : (new : List ℕ) (p h : ℕ) → Alike net new → shape (turned new p h) ≡ true → Alike net (turned new p h)
   alike-turned new p h c f = record {
     fits = f;
     rams = λ k l. rw (rowAt-turned new p h k) (c .rams k (omega (arith, rows-turned new p h)));
@@ -82,11 +82,3 @@ module _ (net : List ℕ) (s : shape net ≡ true) (b : Rams net) where
     id = λ k l. rw (rowAt-turned new p h k) (c .id k l);
     online = λ k l. online-same new (turned new p h) k (rowAt-turned new p h k) ∙ c .online k l;
   }
-
-  pub alike-lost : (new : List ℕ) → Became Moved net new → Alike net (turned new LOST 0)
-  alike-lost new c = alike-turned new LOST 0 (alike-moved new c) (turned-lost new (shape-moved s c))
-
-  pub alike-held : (new : List ℕ) → Became Moved net new → (p h : ℕ) → 0 < p → p < 3 → Held net h → Alike net (turned new p h)
-  alike-held new c p h x y d =
-      alike-turned new p h (alike-moved new c)
-      (turned-held new p h (shape-moved s c) x y (omega (arith, became-rows c, d .0)) (moved-online c h (d .0) ∙ d .1))

@@ -1,10 +1,9 @@
--- A network that another became, change after change: its rows, and who is on line.
+-- A row that another became, change after change; and a network: its rows, and who is on line.
 -- Assumes nothing.
 use mathlib.Core.Path.{_≡_, refl, _∙_, ap}
 use mathlib.Core.Bool.{true}
 use mathlib.Core.List.{List}
 use Prim.Native.Nat.{ℕ, _<_}
-use native.Mathlib.Omega.{arith}
 use lib.Dec.{lit<}
 use Rattle.card.specs.declared.regs.Regs.{Regs}
 use Rattle.card.specs.Row.{regsOf, onLine, wellFormed}
@@ -21,7 +20,7 @@ pub record Still (r s : List ℕ) : Type 0 where
   pub moved : Moved r s
   pub nid : regsOf s .nid ≡ regsOf r .nid
 
-pub moved-same : (r : List ℕ) → wellFormed r ≡ true → Moved r r
+moved-same : (r : List ℕ) → wellFormed r ≡ true → Moved r r
 moved-same r w = record { kept = kept-same r w; ram = λ i b. b }
 
 pub still-same : (r : List ℕ) → wellFormed r ≡ true → Still r r
@@ -57,28 +56,12 @@ module _ {R : List ℕ → List ℕ → Type 0} {net new : List ℕ} (c : Became
   became-map : {S : List ℕ → List ℕ → Type 0} → ((r s : List ℕ) → R r s → S r s) → Became S net new
   became-map f = record { long = c .long; header = c .header; row = λ k l. f (rowAt net k) (rowAt new k) (c .row k l) }
 
-  pub became-then : {last : List ℕ} → ((r s t : List ℕ) → R r s → R s t → R r t) → Became R new last → Became R net last
-  became-then after d = record {
-    long = d .long ∙ c .long;
-    header = λ x l. d .header x l ∙ c .header x l;
-    row = λ k l. after _ _ _ (c .row k l) (d .row k (omega (arith, became-rows)));
-  }
-
 module _ {net new : List ℕ} where
-  pub moved-then : {last : List ℕ} → Became Moved net new → Became Moved new last → Became Moved net last
-  moved-then c d = became-then c (λ r s t. moved-after) d
-
-  pub still-then : {last : List ℕ} → Became Still net new → Became Still new last → Became Still net last
-  still-then c d = became-then c (λ r s t. still-after) d
-
   pub still-moved : Became Still net new → Became Moved net new
   still-moved c = became-map c (λ r s q. q .moved)
 
   pub shape-moved : shape net ≡ true → Became Moved net new → shape new ≡ true
   shape-moved s c = shape-became net new s (became-map c (λ r s q. q .kept))
-
-  pub shape-still : shape net ≡ true → Became Still net new → shape new ≡ true
-  shape-still s c = shape-moved s (still-moved c)
 
   pub moved-online : Became Moved net new → (k : ℕ) → k < rows net → onLineAt new k ≡ onLineAt net k
   unfolding onLineAt

@@ -1,136 +1,131 @@
--- What a step does to a row that neither holds in TAKEN nor stores a packet: its status, its diagnostic status and its NID alone may change.
+-- What a step does to a row that does not hold in TAKEN: it stores the packet, or only its status, its diagnostic status and its NID may change.
 -- Assumes nothing.
-use mathlib.Core.Path.{_≡_, _∙_, ap}
-use mathlib.Core.Bool.{Bool, true, false, _&&_}
-use mathlib.Core.List.{List}
-use mathlib.Core.Logic.{inr, ⊎-elim}
+use mathlib.Core.Path.{_≡_, refl, _∙_, ap}
+use mathlib.Core.Bool.{Bool, true, false, _&&_, _||_}
+use mathlib.Core.List.{List, _∷_}
 use Prim.Native.Nat.{ℕ, _+_, _≤_, _<_}
 use native.Mathlib.Omega.{arith}
-use lib.Dec.{eqb, lit<}
+use lib.Dec.{eqb}
 use lib.ListN.{length}
-use borrow.Author.Tests.{eqb-false}
+use borrow.Author.Tests.{eqb-true}
 use Rattle.card.specs.declared.regs.Regs.{Regs}
 use Rattle.card.specs.declared.packets.Packet.{Packet}
-use Rattle.line.specs.declared.passes.Event.the-variants.{Message}
-use Rattle.line.specs.declared.traffic.Outcome.{Outcome}
-use Rattle.line.specs.declared.step.Answer.{Answer}
-use Rattle.card.specs.Row.{rowBytes, regsOf, wellFormed}
-use Rattle.card.specs.Packets.{dataAt, pageBytes, pageAt, stored}
-use Rattle.card.specs.Events.{received, cancelled, transmitting, receiving, transmitPage, receivePage, storable}
-use Rattle.card.specs.Bystander.{Bystander, Spares}
+use Rattle.line.specs.declared.passes.Event.{Event}
+use Rattle.line.specs.declared.passes.Event.the-variants.{Recovery, Message, Taken}
+use Rattle.card.specs.Words.{pick}
+use Rattle.card.specs.Row.{rowBytes, regsOf, putRegs, wellFormed}
+use Rattle.card.specs.Packets.{pageBytes, pageAt}
+use Rattle.card.specs.Events.{receiving, receivePage, storable}
+use Rattle.card.specs.Bystander.{Bystander, Storing}
 use Rattle.card.proofs.Bools.{and-left, and-right, pick-of}
-use Rattle.card.proofs.Rows.{length-put, regs-put, well-fit}
+use Rattle.card.proofs.Rows.{regs-put, well-fit}
 use Rattle.card.proofs.Fits.{fit-rules}
-use Rattle.card.proofs.Bystanders.{spares-stored}
-use Rattle.card.proofs.Traffic.{received-ends, receive-room, transmit-page-small}
-use Rattle.card.proofs.Rams.{Small}
-use Rattle.line.specs.Network.{rows, phase, holder, LOST, PASS, TAKEN, rowAt, setRow, regsAt, shape}
-use Rattle.line.specs.Traffic.{Turn, onRow, storedRow, takes, carriedRow, carried, takenTurn}
-use Rattle.line.specs.Step.{stepTurn, stepNumber, step}
-use Rattle.line.proofs.Folds.{clash}
-use Rattle.line.proofs.Networks.{rowAt-turned, setRow-header, rowAt-setRow-other}
-use Rattle.card.proofs.Pages.{length-stamped}
-use Rattle.line.proofs.Shapes.{shape-within, shape-row, shape-row-length, shape-phase, shape-holder}
-use Rattle.line.proofs.ShapesKept.{Became, became-each}
-use Rattle.line.proofs.Became.{became-rows, shape-still, still-moved}
-use Rattle.line.proofs.Alike.{Rams, alike-moved}
-use Rattle.line.proofs.StepsKeep.{still-onRow}
-use Rattle.line.proofs.RegsKeep.{stays-cancelled}
-use Rattle.line.proofs.TrafficKeep.{carried-still}
-use Rattle.line.proofs.Watches.{Receives, Watches, watches-same, watches-then, watched-happened, watched-lost, watched-pass}
-use Rattle.line.proofs.TakenBy.{Changes, try-by}
+use Rattle.card.proofs.Pages.{length-stored}
+use Rattle.card.proofs.Traffic.{receive-room}
+use Rattle.card.proofs.Bystanders.{Reached, reached-same, reached-recovered, reached-heard, reached-answered, reached-risen, takes-same, storable-same, bystander-same, bystander-then, bystander-put, stores-after, stores-then, stores-stored}
+use Rattle.line.specs.Network.{rows, phase, holder, TAKEN, rowAt, regsAt, shape}
+use Rattle.line.specs.Traffic.{happens, storedRow, takes, carriedRow}
+use Rattle.line.specs.Step.{step}
+use Rattle.line.specs.Outcomes.{stores}
+use Rattle.line.proofs.Alike.{Rams}
+use Rattle.line.proofs.Changes.{Rises, Cancels, Waits, Ends, Change, Reaches, Does, Stamps, Carries, rowDone, Whole, Allowed, storesIt, storedBy}
+use Rattle.line.proofs.Paths.{by-rows}
+use Rattle.line.proofs.TakenBy.{or-false}
+use Rattle.line.proofs.StepBy.{step-by}
 
--- ---- TAKEN: every row but the holder h
-record Aside (h : ℕ) (net new : List ℕ) : Type 0 where
-  count : rows new ≡ rows net
-  row : (j : ℕ) → j < rows net → (j ≡ h → ⊥) → Watches (rowAt net j) (rowAt new j)
+-- ---- a row that stored the packet, or has not: a bystander whose RI stays
+abbrev Receives : List ℕ → Bool
+Receives r = receiving (regsOf r)
 
-module _ (h : ℕ) where
-  aside-then : {net new last : List ℕ} → Aside h net new → Aside h new last → Aside h net last
-  aside-then a b = record {
-    count = b .count ∙ a .count;
-    row = λ j l n. watches-then _ _ _ (a .row j l n) (b .row j (omega (arith, a .count)) n);
-  }
+abbrev Watches : Bool → List ℕ → List ℕ → Type 0
+Watches true r s = Storing r s
+Watches false r s = Bystander r s × (Receives s ≡ Receives r)
 
-  aside-became : {net new : List ℕ} → Became Watches net new → Aside h net new
-  aside-became c = record { count = became-rows c; row = λ j l n. c .row j l }
+watches-put : (b : Bool) (r s : List ℕ) → length s ≡ rowBytes → (g : Regs) → Reached (regsOf s) g → Watches b r s → Watches b r (putRegs s g)
+watches-put b r s l g e =
+    let m = bystander-put s g (omega arith) (e .but) in
+    let i = ap receiving (regs-put s g (omega arith)) ∙ e .receives in
+    on b m i
+  where
+    on : (b : Bool) → Bystander s (putRegs s g) → Receives (putRegs s g) ≡ Receives s → Watches b r s → Watches b r (putRegs s g)
+    on true m i w = stores-then r s _ w m i
+    on false m i w = (bystander-then r s _ (w .0) m, i ∙ w .1)
 
-  -- a row that is given other bytes is the holder's
-  aside-set : (net : List ℕ) → shape net ≡ true → h < rows net → (r : List ℕ) → length r ≡ rowBytes → Aside h net (setRow net h r)
-  aside-set net s l r e = record {
-    count = setRow-header net h r (shape-within net s h l) e 3 (lit< tt);
-    row = λ j b n. rw (rowAt-setRow-other net h r (shape-within net s h l) e j n (shape-within net s j b)) (watches-same (rowAt net j));
-  }
+reaches : (e : Event) (k : ℕ) (g : Regs) → Reached g (happens e k g)
+reaches Recovery k g = reached-recovered g
+reaches (Message h token) k g = pick-of (Reached g) (eqb k h) (λ _. reached-same g) (λ _. reached-heard g token)
+reaches (Taken i t) k g = reached-answered g i (eqb k t)
 
-  aside-onRow : (net : List ℕ) → shape net ≡ true → h < rows net → (f : Regs → Regs) → Aside h net (onRow net h f)
-  unfolding onRow
-  aside-onRow net s l f = aside-set net s l _ (length-put (rowAt net h) _ ∙ shape-row-length net s h l)
+-- ---- a packet reaches the row s, which was r
+module _ (h to : ℕ) (broadcast : Bool) (k : Packet) (a : Whole k) (j : ℕ) (r s : List ℕ) (l : length s ≡ rowBytes) (w : wellFormed s ≡ true) where
+  abbrev Asks : List ℕ → Bool
+  Asks x = storesIt h (Carries to broadcast k) j (regsOf x)
 
-  -- a packet that reaches the rows: where it is stored, RI was 0 and is 1
-  module _ (k : Packet) (full : 512 ≤ length (k .bytes)) (count : dataAt (k .shape) < 256) (small : Small (k .bytes)) (to : ℕ) (broadcast : Bool) where
-    watches-stored : (r : List ℕ) → length r ≡ rowBytes → wellFormed r ≡ true → Receives r ≡ true → storable (regsOf r) (k .shape) ≡ true
-        → length (storedRow r k) ≡ rowBytes → Watches r (storedRow r k)
-    watches-stored r l w a b e =
-        let m = stored r (receivePage (regsOf r)) k in
-        let room : pageAt (receivePage (regsOf r)) + pageBytes (k .shape) ≤ length r = omega (arith, l, receive-room (regsOf r) (fit-rules (regsOf r) (well-fit r w)) a (k .shape) b) in
-        inr (
-          a,
-          ap receiving (regs-put m (received (regsOf m)) (omega (arith, length-put m (received (regsOf m))))) ∙ received-ends (regsOf m),
-          spares-stored r k room full count b (received (regsOf m)),
-        )
+  asks-same : Bystander r s → Receives s ≡ Receives r → Asks s ≡ Asks r
+  asks-same b e =
+      rw (takes-same (regsOf r) (regsOf s) (b .registers) e, storable-same (regsOf r) (regsOf s) (b .registers) (k .shape), e)
 
-    aside-carried : (net : List ℕ) → shape net ≡ true → Aside h net (carried net h to broadcast k)
-    unfolding carried
-    aside-carried net s =
-        aside-became (became-each {R = Watches} (carriedRow h to broadcast k) net s
-        (λ j l. let r = rowAt net j in
-        let e = carried-still k full count small h to broadcast j r (shape-row-length net s j l) (shape-row net s j l) .0 in
-        let t = takes h to broadcast j (regsOf r) in
-        let b = storable (regsOf r) (k .shape) in (
-          e,
-          pick-of (λ (x : List ℕ). length x ≡ rowBytes → Watches r x) (t && Receives r && b)
-              (λ z m. watches-stored r (shape-row-length net s j l) (shape-row net s j l) (and-right t (Receives r) (and-left (t && Receives r) b z)) (and-right (t && Receives r) b z) m) (λ _ _. watches-same r) e,
-        )))
+  asks-receives : Asks s ≡ true → Receives s ≡ true
+  asks-receives e =
+      let t = takes h to broadcast j (regsOf s) in
+      and-right t (Receives s) (and-left (t && Receives s) (storable (regsOf s) (k .shape)) e)
 
-  aside-changes : (p : ℕ) → Changes (Aside h) h p
-  aside-changes p = record {
-    after = aside-then;
-    regs = aside-onRow;
-    heard = λ net s _. aside-became (watched-happened net s (Message h false));
-    stamp = λ net s l. aside-set net s l _ (length-stamped (rowAt net h) p ∙ shape-row-length net s h l);
-    carry = λ net s _ k full count small to broadcast _. aside-carried k full count small to broadcast net s;
-  }
+  watches-stored : Bystander r s → Receives s ≡ Receives r → Asks s ≡ true → Storing r (storedRow s k)
+  watches-stored b i e =
+      let q = asks-receives e in
+      let t = takes h to broadcast j (regsOf s) in
+      let can = and-right (t && Receives s) (storable (regsOf s) (k .shape)) e in
+      let room : pageAt (receivePage (regsOf s)) + pageBytes (k .shape) ≤ length s
+      = omega (arith, l, receive-room (regsOf s) (fit-rules (regsOf s) (well-fit s w)) q (k .shape) can) in
+      stores-after r s _ b i
+      (stores-stored s k room (a .full) (a .count) can (omega (arith, l, length-stored s (receivePage (regsOf s)) k room (a .full) (a .count))) q)
 
-  aside-taken : (net : List ℕ) → shape net ≡ true → Rams net → h < rows net → (fault : ℕ) → Aside h net (takenTurn net h fault .after)
-  unfolding takenTurn
-  aside-taken net s b l fault =
-      let m = onRow net h cancelled in
-      let a = aside-onRow net s l cancelled in
-      let c = still-onRow net h s l cancelled stays-cancelled in
-      pick-of (λ (x : Turn Outcome). Aside h net (x .after)) (transmitting (regsAt m h))
-      (λ _. aside-then a (try-by (Aside h) h (transmitPage (regsAt m h)) (aside-changes (transmitPage (regsAt m h))) m (shape-still s c) (omega (arith, a .count)) (alike-moved net s b m (still-moved c) .rams) fault (transmit-page-small (regsAt m h))))
-      (λ _. a)
+  by-asking : (x : Bool) → (x ≡ true → Storing r (storedRow s k)) → Watches false r s → Watches x r (pick x (storedRow s k) s)
+  by-asking true p q = p refl
+  by-asking false p q = q
+
+  watches-carried : Watches false r s → Watches (Asks r || false) r (carriedRow h to broadcast k j s)
+  watches-carried q = rw (or-false (Asks r), ← asks-same (q .0) (q .1)) (by-asking (Asks s) (watches-stored (q .0) (q .1)) q)
 
 -- ---- a step
-module _ (net : List ℕ) (s : shape net ≡ true) (b : Rams net) (fault j : ℕ) (l : j < rows net) (n : phase net ≡ TAKEN → j ≡ holder net → ⊥) where
-  abbrev Seen : Turn Answer → Type 0
-  Seen x = Watches (rowAt net j) (rowAt (x .after) j)
+module _ (net : List ℕ) (s : shape net ≡ true) (b : Rams net) (fault : ℕ) where
+  abbrev Aside : ℕ → Type 0
+  Aside j = phase net ≡ TAKEN → j ≡ holder net → ⊥
 
-  watches-turn : Seen (stepTurn net fault)
-  unfolding stepTurn
-  watches-turn =
-      pick-of Seen (eqb (phase net) LOST) (λ _. watched-lost net s j l)
-      (λ t. let d = shape-holder net s (eqb-false (phase net) LOST t) in
-      pick-of Seen (eqb (phase net) PASS) (λ _. watched-pass net s fault (d .0) j l)
-      (λ u. let e : phase net ≡ TAKEN = omega (arith, shape-phase net s, eqb-false (phase net) LOST t, eqb-false (phase net) PASS u) in
-      rw (rowAt-turned (takenTurn net (holder net) fault .after) PASS (holder net) j) (aside-taken (holder net) net s b (d .0) fault .row j l (n e))))
+  abbrev Seen : List Change → ℕ → List ℕ → Type 0
+  Seen l j r = Aside j → Watches (storedBy (holder net) l j (regsAt net j)) (rowAt net j) r
 
-  watches-step : Seen (step net fault)
-  unfolding step
-  watches-step = pick-of Seen (eqb (stepNumber net fault) 0) (λ _. watches-turn) (λ _. watches-same (rowAt net j))
+  module _ (l : List Change) (j : ℕ) (n : Aside j) (r : List ℕ) (m : length r ≡ rowBytes) (w : wellFormed r ≡ true) (q : Watches (storedBy (holder net) l j (regsAt net j)) (rowAt net j) r) where
+    abbrev was : List ℕ
+    was = rowAt net j
 
-  pub bystands : receiving (regsAt (step net fault .after) j) ≡ receiving (regsAt net j) → Bystander (rowAt net j) (rowAt (step net fault .after) j)
-  bystands e = ⊎-elim (λ a. a .0) (λ a. absurd (clash (e ∙ a .0) (a .1))) watches-step
+    abbrev x : Bool
+    x = storedBy (holder net) l j (regsAt net j)
 
-  pub spares : Spares (rowAt net j) (rowAt (step net fault .after) j)
-  spares = ⊎-elim (λ a i h _. a .0 .behind i h) (λ a. a .2) watches-step
+    -- the holder's own changes are in TAKEN, but for the rise of its NID
+    not-mine : phase net ≡ TAKEN → (t : List ℕ) → Watches x was (pick (eqb j (holder net)) t r)
+    not-mine p t = pick-of (Watches x was) (eqb j (holder net)) (λ e. absurd (n p (eqb-true j (holder net) e))) (λ _. q)
+
+    seen : (c : Change) → Allowed net l c → Watches (storedBy (holder net) (c ∷ l) j (regsAt net j)) was (rowDone (holder net) c j r)
+    seen (Reaches e) a = watches-put x was r m (happens e j (regsOf r)) (reaches e j (regsOf r)) q
+    seen (Does Rises) a = pick-of (Watches x was) (eqb j (holder net)) (λ _. watches-put x was r m _ (reached-risen (regsOf r)) q) (λ _. q)
+    seen (Does Cancels) a = not-mine a _
+    seen (Does Waits) a = not-mine (a .taken) _
+    seen (Does (Ends y z)) a = not-mine (a .taken) _
+    seen (Stamps p) a = not-mine (a .0 .taken) _
+    seen (Carries to broadcast k) a =
+        let e = a .once j (regsAt net j) in
+        rw e (watches-carried (holder net) to broadcast k (a .whole) j was r m w (rw e at q))
+
+  module _ (j : ℕ) (l : j < rows net) (n : Aside j) where
+    watches : Watches (stores net fault j) (rowAt net j) (rowAt (step net fault .after) j)
+    watches =
+        let t = step-by net s b fault in
+        rw (← t .stored j l) (by-rows net s b Seen (λ i _ _. (bystander-same (rowAt net i), refl))
+        (λ k c a i r m w q u. seen k i u r m w (q u) c a) (t .path) j l n)
+
+    pub bystands : stores net fault j ≡ false → Bystander (rowAt net j) (rowAt (step net fault .after) j)
+    bystands e = (rw e at watches) .0
+
+    pub fills : stores net fault j ≡ true → Storing (rowAt net j) (rowAt (step net fault .after) j)
+    fills e = rw e at watches

@@ -14,13 +14,13 @@ use Rattle.line.specs.declared.passes.Event.{Event}
 use Rattle.line.specs.declared.passes.Event.the-variants.{Message}
 use Rattle.card.specs.Row.{rowBytes, putRegs}
 use Rattle.card.specs.Packets.{packetAt, stamped}
-use Rattle.card.proofs.Pages.{length-stamped}
 use Rattle.line.specs.Network.{headerBytes, rowStart, rows, holder, rowAt, setRow, eachRow, onRegs, regsAt, rowsFit, shape}
 use Rattle.line.specs.Traffic.{onRow, happens, happened, carriedRow, carried, stampedNet, wentOut}
 use Rattle.line.proofs.Folds.{every-of}
-use Rattle.line.proofs.Networks.{mid-row, put-row, setRow-header}
-use Rattle.line.proofs.Shapes.{shape-length, shape-row, shape-row-length, shape-within}
-use Rattle.line.proofs.StepsKeep.{shape-happened, shape-stamped, rows-happened}
+use Rattle.line.proofs.Networks.{mid-row, put-row}
+use Rattle.line.proofs.Shapes.{shape-length, shape-row, shape-within}
+use Rattle.line.proofs.Changes.{Stamps}
+use Rattle.line.proofs.ChangesKeep.{shape-done, rows-done, shape-happened, rows-happened}
 
 -- the bounds that a well-formed network gives to the code
 module _ (net : List ℕ) (s : shape net ≡ true) where
@@ -44,15 +44,18 @@ module _ (net : List ℕ) (s : shape net ≡ true) (h p : ℕ) (l : h < rows net
       → putMid (rowStart h) (rowStart h + rowBytes - rowStart h) net m ≡ stampedNet net h p
   stamped-is m e = put-row net h m ∙ ap (setRow net h) (e ∙ ap (λ (r : List ℕ). stamped r p) (mid-row net h))
 
+  shape-stamped : shape (stampedNet net h p) ≡ true
+  shape-stamped = shape-done net h s l (Stamps p) tt
+
   pub rows-stamped : rows (stampedNet net h p) ≡ rows net
-  rows-stamped = setRow-header net h _ (shape-within net s h l) (length-stamped _ p ∙ shape-row-length net s h l) 3 (omega arith)
+  rows-stamped = rows-done net h s l (Stamps p) tt
 
   -- the bounds after the stamp
   pub stamped-bounds : (m : List ℕ) → m ≡ stamped (midOf (rowStart h) (rowStart h + rowBytes - rowStart h) net) p → (n : ℕ) → n ≡ rows net
       → (rowStart h + rowBytes ≤ length (putMid (rowStart h) (rowStart h + rowBytes - rowStart h) net m))
       × (rowStart n ≤ length (putMid (rowStart h) (rowStart h + rowBytes - rowStart h) net m))
   stamped-bounds m e n en =
-      let t = shape-stamped net h s l p in
+      let t = shape-stamped in
       let r : n ≡ rows (stampedNet net h p) = en ∙ sym rows-stamped in
       (rw (stamped-is m e) (shape-within (stampedNet net h p) t h (omega (arith, rows-stamped))), rw (stamped-is m e, r) (has-rows (stampedNet net h p) t))
 
@@ -60,10 +63,10 @@ module _ (net : List ℕ) (s : shape net ≡ true) (h p : ℕ) (l : h < rows net
   went = happened (stampedNet net h p) (Message h false)
 
   shape-went : shape went ≡ true
-  shape-went = shape-happened (stampedNet net h p) (Message h false) (shape-stamped net h s l p)
+  shape-went = shape-happened (stampedNet net h p) (Message h false) shape-stamped
 
   rows-went : rows went ≡ rows net
-  rows-went = rows-happened (stampedNet net h p) (Message h false) (shape-stamped net h s l p) ∙ rows-stamped
+  rows-went = rows-happened (stampedNet net h p) (Message h false) shape-stamped ∙ rows-stamped
 
   module _ (n : ℕ) (en : n ≡ rows net) (x y : List ℕ) (ex : x ≡ stampedNet net h p) (ey : y ≡ eachRow (λ k r. onRegs (happens (Message h false) k) r) x n) where
     is-went : y ≡ went

@@ -1,4 +1,4 @@
--- A changed network that is still well formed: one row changed, each row changed, another phase and holder.
+-- A changed network that is still well formed: its rows changed, another phase and holder.
 -- Assumes nothing.
 use mathlib.Core.Path.{_≡_, refl, sym, _∙_, ap}
 use mathlib.Core.Bool.{true, false}
@@ -11,13 +11,12 @@ use lib.ListN.{length, getD}
 use borrow.Author.Tests.{eqb-true, eqb-false}
 use Rattle.card.specs.Row.{rowBytes, regsOf, onLine, wellFormed}
 use Rattle.card.proofs.Bools.{cases}
-use Rattle.line.specs.Network.{headerBytes, rows, phase, holder, LOST, turned, rowAt, setRow, eachRow, regsAt, onLineAt, isNode, shape}
+use Rattle.line.specs.Network.{headerBytes, rows, phase, holder, LOST, turned, rowAt, setRow, regsAt, onLineAt, isNode, shape}
 use Rattle.line.proofs.Folds.{clash}
 use Rattle.line.proofs.Networks.{length-setRow, setRow-header, rowAt-setRow, rowAt-setRow-other, length-turned, rowAt-turned, turned-other, rows-turned, phase-turned, holder-turned}
-use Rattle.line.proofs.EachRow.{reached}
 use Rattle.line.proofs.Nodes.{online-same, node-of}
 use Rattle.line.proofs.Headers.{header-kept}
-use Rattle.line.proofs.Shapes.{Held, shape-header, shape-length, shape-within, shape-row, shape-row-length, shape-ids, shape-phase, shape-holder, shape-lost, shape-of}
+use Rattle.line.proofs.Shapes.{Held, shape-header, shape-length, shape-within, shape-row, shape-ids, shape-phase, shape-holder, shape-lost, shape-of}
 
 -- the row s in the place of the row r: well formed, with r's ID, and on line as r is
 pub record Kept (r s : List ℕ) : Type 0 where
@@ -49,27 +48,6 @@ shape-became net new s c =
     shape-ids net s j k dj dk (sym (same j dj) ∙ p) (sym (same k dk) ∙ o) (sym (c .row j dj .id) ∙ i ∙ c .row k dk .id))
     (λ p. ho ∙ shape-lost net s (sym ph ∙ p))
     (λ p. let h = shape-holder net s (λ z. p (ph ∙ z)) in (omega arith, ap (onLineAt new) ho ∙ same (holder net) (h .0) ∙ h .1))
-
--- a function done to each row of this network
-pub became-each : {R : List ℕ → List ℕ → Type 0} (f : ℕ → List ℕ → List ℕ) (net : List ℕ) → shape net ≡ true
-    → ((k : ℕ) → k < rows net → (length (f k (rowAt net k)) ≡ rowBytes) × R (rowAt net k) (f k (rowAt net k)))
-    → Became R net (eachRow f net (rows net))
-became-each f net s q =
-    let d = reached f net (rows net) (omega (arith, shape-length net s)) (λ k l. q k l .0) in
-    record { long = d .long; header = d .header; row = λ k l. rw (d .row k l) (q k l .1) }
-
-pub shape-reached : (f : ℕ → List ℕ → List ℕ) (net : List ℕ) → shape net ≡ true
-    → ((k : ℕ) → k < rows net → length (f k (rowAt net k)) ≡ rowBytes) → ((k : ℕ) → k < rows net → Kept (rowAt net k) (f k (rowAt net k)))
-    → shape (eachRow f net (rows net)) ≡ true
-shape-reached f net s keeps q = shape-became net _ s (became-each f net s (λ k l. (keeps k l, q k l)))
-
--- a function that keeps each well formed row
-pub shape-each : (f : ℕ → List ℕ → List ℕ) (net : List ℕ) → shape net ≡ true
-    → ((k : ℕ) (r : List ℕ) → length r ≡ rowBytes → length (f k r) ≡ rowBytes)
-    → ((k : ℕ) (r : List ℕ) → length r ≡ rowBytes → wellFormed r ≡ true → Kept r (f k r)) → shape (eachRow f net (rows net)) ≡ true
-shape-each f net s keeps q =
-    shape-reached f net s (λ k l. keeps k (rowAt net k) (shape-row-length net s k l))
-    (λ k l. q k (rowAt net k) (shape-row-length net s k l) (shape-row net s k l))
 
 -- another row k, where R holds of a row and itself
 pub became-put : {R : List ℕ → List ℕ → Type 0} (net : List ℕ) (k : ℕ) (r : List ℕ) → shape net ≡ true → k < rows net → length r ≡ rowBytes
@@ -145,6 +123,3 @@ shape-turned net p h s l a b =
 
 pub turned-lost : (net : List ℕ) → shape net ≡ true → shape (turned net LOST 0) ≡ true
 turned-lost net s = shape-turned net LOST 0 s (omega arith) (λ e. refl) (λ e. absurd (e refl))
-
-pub turned-held : (net : List ℕ) (p h : ℕ) → shape net ≡ true → 0 < p → p < 3 → h < rows net → onLineAt net h ≡ true → shape (turned net p h) ≡ true
-turned-held net p h s a b l o = shape-turned net p h s b (λ e. absurd (omega arith)) (λ e. (l, o))

@@ -20,7 +20,8 @@ use Rattle.line.specs.Network.{rows, rowAt, setRow, regsAt, nodeOf, shap
 use Rattle.line.specs.Traffic.{onRow, broadcastTurn, enquiryTurn, tryTurn, takenTurn}
 use Rattle.line.proofs.Networks.{setRow-header, rowAt-setRow}
 use Rattle.line.proofs.Shapes.{shape-within, shape-row-length}
-use Rattle.line.proofs.StepsKeep.{shape-cancelled}
+use Rattle.line.proofs.Changes.{Cancels, Does}
+use Rattle.line.proofs.ChangesKeep.{shape-done}
 use Rattle.line.proofs.Sends.{put-after}
 
 module _ (net : List ℕ) (h p fault : ℕ) (r : List ℕ) (er : r ≡ rowAt net h) (s : Shape) (es : s ≡ pageShape r p) (m : Bool) (em : m ≡ malformed s) where
@@ -74,7 +75,7 @@ module _ (net : List ℕ) (s : shape net ≡ true) (h : ℕ) (l : h < rows net) 
   pub cancels-ready : (page : ℕ) → page ≡ transmitPage g → (shape x ≡ true) × ((h < rows x) × (page < 4))
   cancels-ready page e =
       let n : rows x ≡ rows net = ap rows ex ∙ setRow-header net h _ (shape-within net s h l) (long g) 3 (omega arith) in
-      (rw after-cancels (shape-cancelled net h s l), (omega arith, rw e (transmit-page-small g)))
+      (rw after-cancels (shape-done net h s l (Does Cancels) tt), (omega arith, rw e (transmit-page-small g)))
 
   module _ (b : Bool) (eb : b ≡ transmitting g) where
     waits : b ≡ transmitting (regsAt (onRow net h cancelled) h)

@@ -19,7 +19,7 @@ use Rattle.line.specs.Traffic.{happens, happened, takenTurn}
 use Rattle.line.specs.Step.{lostTurn, passTurn, invited, taker, stepTurn}
 use Rattle.line.proofs.Folds.{seek-at-most}
 use Rattle.line.proofs.Shapes.{shape-rows}
-use Rattle.line.proofs.StepsKeep.{rows-happened}
+use Rattle.line.proofs.ChangesKeep.{rows-happened}
 use Rattle.line.proofs.Sends.{is-happened, put-after}
 
 -- a row that was looked for is a byte, found or not

@@ -1,29 +1,29 @@
 -- One fault-free line step of a well formed network, as it is seen from outside: its answer, the phase and the holder after it, every NID.
 -- Assumes nothing.
-use mathlib.Core.Path.{_≡_, _∙_, ap}
+use mathlib.Core.Path.{_≡_, refl, _∙_, ap}
 use mathlib.Core.Bool.{true}
-use mathlib.Core.List.{List}
+use mathlib.Core.List.{List, [], _∷_}
 use Prim.Native.Nat.{ℕ, _+_, _%_, _≤_, _<_}
 use native.Mathlib.Omega.{arith}
+use lib.Dec.{lit<}
+use lib.ListN.{length}
 use Rattle.card.specs.declared.regs.Regs.{Regs}
 use Rattle.line.specs.declared.passes.Event.the-variants.{Recovery, Message, Taken}
 use Rattle.line.specs.declared.traffic.Outcome.{Outcome}
 use Rattle.line.specs.declared.step.Answer.{Answer}
 use Rattle.line.specs.declared.step.Answer.the-variants.{Recovered, Passed, Unanswered, Held}
-use Rattle.card.specs.Events.{risenNid}
-use Rattle.card.proofs.Kept.{is-risen}
-use Rattle.line.specs.Network.{rows, phase, holder, LOST, PASS, TAKEN, regsAt, onLineAt, topId, shape}
+use Rattle.card.specs.Row.{onLine}
+use Rattle.card.proofs.Kept.{is-recovered, is-risen}
+use Rattle.line.specs.Network.{headerBytes, rows, phase, holder, LOST, PASS, TAKEN, turned, regsAt, onLineAt, topId, shape}
 use Rattle.line.specs.Traffic.{Turn, happened, takenTurn}
 use Rattle.line.specs.Step.{highest, invited, taker, step}
-use Rattle.line.proofs.Networks.{rowAt-turned, phase-turned, holder-turned}
-use Rattle.line.proofs.ShapesKept.{Became}
-use Rattle.line.proofs.Became.{Still, became-rows, became-phase, became-holder, still-then, shape-still}
+use Rattle.line.proofs.Networks.{length-turned, rowAt-turned, phase-turned, holder-turned}
 use Rattle.line.proofs.Sends.{has-header}
 use Rattle.line.proofs.Stepped.{held-row}
-use Rattle.line.proofs.RegsKeep.{stays-message, stays-taken, keeps-risen}
-use Rattle.line.proofs.StepsKeep.{onRow-here, onRow-there, recovered-nid, moved-onRow, still-happened, shape-happened}
-use Rattle.line.proofs.TrafficKeep.{still-taken}
-use Rattle.line.proofs.StepShape.{sound-step}
+use Rattle.line.proofs.Changes.{Rises, Reaches, Does, Path, begin, more}
+use Rattle.line.proofs.ChangesKeep.{made, own-here, own-there, shape-happened, happened-here}
+use Rattle.line.proofs.Paths.{sound, same-nids, keep-taken}
+use Rattle.line.proofs.StepBy.{step-by, sound-step}
 use Rattle.line.proofs.StepIs.{lost-is, held-is, invitation, taker-is, none-is, passed-is}
 pub use Rattle.line.proofs.Alike.{Rams, Alike, alike-same, alike-then}
 
@@ -41,6 +41,7 @@ module _ (net : List ℕ) (s : shape net ≡ true) (b : Rams net) where
     pub nid : (k : ℕ) → k < rows net → onLineAt net k ≡ true → regsAt (step net 0 .after) k .nid ≡ regsAt net k .id
 
   pub lost-step : phase net ≡ LOST → (topId net (rows net) ≡ 0 → ⊥) → AfterLost
+  unfolding onLineAt
   lost-step p ne =
       let e = lost-is net s p ne in
       let m = happened net Recovery in
@@ -50,12 +51,13 @@ module _ (net : List ℕ) (s : shape net ≡ true) (b : Rams net) where
         alike = any-step;
         phase = rw e (phase-turned m PASS (highest net) l);
         holder = rw e (holder-turned m PASS (highest net) l);
-        nid = λ k lk o. rw (e, rowAt-turned m PASS (highest net) k) (recovered-nid net s k lk o);
+        nid = λ k lk o. let on : onLine (regsAt net k) ≡ true = o in
+            rw (e, rowAt-turned m PASS (highest net) k) (ap (λ (g : Regs). g .nid) (happened-here net Recovery s k lk) ∙ is-recovered (regsAt net k) .nid ∙ rw on);
       }
 
   -- ---- "PASS": every other row hears the invitation
-  heard-all : Became Still net (invitation net)
-  heard-all = still-happened net (Message (holder net) true) s (stays-message (holder net) true)
+  invites : phase net ≡ PASS → Path net (Reaches (Message (holder net) true) ∷ []) (invitation net)
+  invites p = more begin (Reaches (Message (holder net) true)) (refl, λ _. p)
 
   pub record AfterTaker : Type 0 where
     pub answer : step net 0 .answer ≡ Passed (taker net)
@@ -69,14 +71,14 @@ module _ (net : List ℕ) (s : shape net ≡ true) (b : Rams net) where
       let e = taker-is net s p lt in
       let t = taker net in
       let m = happened (invitation net) (Taken (invited net) t) in
-      let c = still-then heard-all (still-happened (invitation net) (Taken (invited net) t) (shape-still s heard-all) (stays-taken (invited net) t)) in
-      let l = has-header m (shape-still s c) in
+      let q = more (invites p) (Reaches (Taken (invited net) t)) p in
+      let l = has-header m (sound net s b q .fits) in
       record {
         answer = ap (λ (t : Turn Answer). t .answer) e;
         alike = any-step;
         phase = rw e (phase-turned m TAKEN t l);
         holder = rw e (holder-turned m TAKEN t l);
-        nid = λ k lk. rw (e, rowAt-turned m TAKEN t k) (c .row k lk .nid);
+        nid = λ k lk. rw (e, rowAt-turned m TAKEN t k) (same-nids net s b q refl k lk);
       }
 
   pub record AfterNone : Type 0 where
@@ -92,17 +94,19 @@ module _ (net : List ℕ) (s : shape net ≡ true) (b : Rams net) where
       let e = none-is net s p lt in
       let h = holder net in
       let m = invitation net in
-      let sm = shape-still s heard-all in
+      let a = sound net s b (invites p) in
       let l = held-row net s in
-      let lm : h < rows m = omega (arith, became-rows heard-all) in
-      let c = moved-onRow m h sm lm risenNid keeps-risen in
+      let lm : h < rows m = omega (arith, a .count) in
+      let heard = made net h s l (Reaches (Message h true)) tt in
+      let rises = made m h (a .fits) lm (Does Rises) tt in
+      let nids = same-nids net s b (invites p) refl in
       record {
         answer = ap (λ (t : Turn Answer). t .answer) e;
         alike = any-step;
-        here = rw e (ap (λ (g : Regs). g .nid) (onRow-here m h sm lm risenNid) ∙ is-risen (regsAt m h) .nid ∙ ap (λ (n : ℕ). (n + 1) % 256) (heard-all .row h l .nid));
-        there = λ k lk ne. rw (e, onRow-there m h sm lm risenNid k (omega (arith, became-rows heard-all)) ne) (heard-all .row k lk .nid);
-        phase = rw e (became-phase c ∙ became-phase heard-all ∙ p);
-        holder = rw e (became-holder c ∙ became-holder heard-all);
+        here = rw e (ap (λ (g : Regs). g .nid) (own-here m h (a .fits) lm Rises) ∙ is-risen (regsAt m h) .nid ∙ ap (λ (n : ℕ). (n + 1) % 256) (nids h l));
+        there = λ k lk ne. rw (e, own-there m h (a .fits) lm Rises k (omega (arith, a .count)) ne) (nids k lk);
+        phase = rw e (rises .header 4 (lit< tt) ∙ heard .header 4 (lit< tt) ∙ p);
+        holder = rw e (rises .header 5 (lit< tt) ∙ heard .header 5 (lit< tt));
       }
 
   -- ---- "TAKEN"
@@ -119,15 +123,14 @@ module _ (net : List ℕ) (s : shape net ≡ true) (b : Rams net) where
       let e = held-is net s p in
       let h = holder net in
       let m = takenTurn net h 0 .after in
-      let c = still-taken net s b h (held-row net s) 0 in
-      let l = has-header m (shape-still s c) in
+      let l : headerBytes ≤ length m = omega (arith, length-turned m PASS h, has-header (turned m PASS h) (rw e at (any-step .fits))) in
       record {
         outcome = takenTurn net h 0 .answer;
         answer = ap (λ (t : Turn Answer). t .answer) e;
         alike = any-step;
         phase = rw e (phase-turned m PASS h l);
         holder = rw e (holder-turned m PASS h l);
-        nid = λ k lk. rw (e, rowAt-turned m PASS h k) (c .row k lk .nid);
+        nid = let q = step-by net s b 0 .path in same-nids net s b q (keep-taken net s b p q);
       }
 
   -- the row that an answer names as the taker is a row

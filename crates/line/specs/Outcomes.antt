@@ -1,16 +1,52 @@
--- Document 01, "One line step": what an outcome says of the holder, and which messages a fault can meet.
+-- Document 01, "One line step": which rows store the packet, what an outcome says of the holder, and which messages a fault can meet.
 -- Assumes nothing.
 use mathlib.Core.Path.{_≡_}
-use mathlib.Core.Bool.{Bool, true, false, _&&_, _||_}
+use mathlib.Core.Bool.{Bool, true, false, not, _&&_, _||_}
+use mathlib.Core.List.{List}
 use Prim.Native.Nat.{ℕ}
 use lib.Dec.{eqb}
 use Rattle.card.specs.declared.regs.Regs.{Regs}
+use Rattle.card.specs.declared.packets.Shape.{Shape}
 use Rattle.line.specs.declared.traffic.Outcome.{Outcome}
 use Rattle.line.specs.declared.traffic.Outcome.the-variants.{Nothing, Malformed, Broadcast, NoAnswer, Nak, Delivered, Unacknowledged}
 use Rattle.line.specs.declared.step.Answer.{Answer}
 use Rattle.line.specs.declared.step.Answer.the-variants.{Refused, Quiet, Recovered, Passed, Unanswered, TokenLost, Held}
-use Rattle.card.specs.Words.{has}
+use Rattle.card.specs.Words.{pick, has}
 use Rattle.card.specs.Flags.{TMA, TA}
+use Rattle.card.specs.Packets.{malformed, pageShape, destination}
+use Rattle.card.specs.Events.{heard, cancelled, sent, transmitting, receiving, transmitPage, storable}
+use Rattle.line.specs.Network.{rows, phase, holder, TAKEN, rowAt, regsAt, nodeOf}
+use Rattle.line.specs.Traffic.{onRow, damaged, takes}
+use Rattle.line.specs.Step.{stepNumber}
+
+-- ---- who stores the packet of a step
+-- the network when the holder's cancels have taken effect, the holder's row of it, the page of the packet that it tries, and the packet's shape and DID
+abbrev pub ready : List ℕ → List ℕ
+ready net = onRow net (holder net) cancelled
+
+abbrev pub sender : List ℕ → List ℕ
+sender net = rowAt (ready net) (holder net)
+
+abbrev pub sentPage : List ℕ → ℕ
+sentPage net = transmitPage (regsAt (ready net) (holder net))
+
+abbrev pub sentShape : List ℕ → Shape
+sentShape net = pageShape (sender net) (sentPage net)
+
+abbrev pub sentTo : List ℕ → ℕ
+sentTo net = destination (sender net) (sentPage net)
+
+-- the row that the enquiry finds; no row, where the packet is broadcast or nobody has the ID
+abbrev pub addressee : List ℕ → ℕ
+addressee net = pick (eqb (sentTo net) 0) (rows (ready net)) (nodeOf (ready net) (sentTo net) (holder net) (rows (ready net)))
+
+-- row j stores it: the step is not refused, the holder tries a packet after its cancels, and row j takes it, with RI 0; "a long packet at a row with long
+-- packets 0, or fault 1, stores nothing there"
+unfoldable pub stores : List ℕ → ℕ → ℕ → Bool
+stores net fault j =
+    eqb (stepNumber net fault) 0 && (eqb (phase net) TAKEN && (transmitting (regsAt (ready net) (holder net)) && (not (malformed (sentShape net))
+    && (not (damaged fault) && (takes (holder net) (addressee net) (eqb (sentTo net) 0) j (regsAt net j)
+    && (receiving (regsAt net j) && storable (regsAt net j) (sentShape net)))))))
 
 -- ---- what an outcome says of the holder's TA and TMA after the step
 -- "Nothing (TA already 1). Malformed: TA = 1. DID 0, Broadcast: TA = 1 .. NoAnswer, TA = 1; .. NAK, TA stays 0; .. Delivered, TA = 1 and TMA = 1.
@@ -34,8 +70,19 @@ outcomeTMA Nak was = false
 outcomeTMA Delivered was = true
 outcomeTMA Unacknowledged was = false
 
--- the holder's registers before and after the step; "wherever TA becomes 1, byte 13 becomes zero"
+-- what happened to the holder's registers: its cancels took effect; then the transmit ended, acknowledged or not, or it waits on; an ACK or NAK was heard
+abbrev pub holderAfter : Outcome → Regs → Regs
+holderAfter Nothing g = cancelled g
+holderAfter Malformed g = sent (cancelled g) false
+holderAfter Broadcast g = sent (cancelled g) false
+holderAfter NoAnswer g = sent (cancelled g) false
+holderAfter Nak g = heard (cancelled g) false
+holderAfter Delivered g = sent (heard (cancelled g) false) true
+holderAfter Unacknowledged g = sent (heard (cancelled g) false) false
+
+-- the holder's registers before and after the step: what happened to them and no more, and so TA, TMA and byte 13; "wherever TA becomes 1, byte 13 becomes zero"
 pub record HolderLeft (before after : Regs) (o : Outcome) : Type 0 where
+  pub registers : after ≡ holderAfter o before
   pub ta : has TA (after .status) ≡ outcomeTA o
   pub tma : has TMA (after .status) ≡ outcomeTMA o (has TMA (before .status))
   pub page : outcomeTA o ≡ true → after .transmit ≡ 0
