@@ -11,8 +11,8 @@ use Rattle.card.specs.declared.numbers.Cases.{Cases}
 use Rattle.card.specs.CaseFields.{with-shape}
 use Rattle.card.specs.Numbers.{none, numberOf}
 use Rattle.card.proofs.Order.{none-holds}
-use Rattle.line.specs.Network.{rowStart, rows, shape}
-use Rattle.line.proofs.Shapes.{shape-length}
+use Rattle.table.specs.Network.{rowStart, rows, shape}
+use Rattle.table.proofs.Shaped.Shapes.{shape-length}
 use Rattle.bench.specs.Calls.{shapeNumber}
 
 module _ (net : List ℕ) (r : ℕ) where

@@ -10,8 +10,8 @@ use Rattle.card.specs.declared.numbers.Cases.{Cases}
 use Rattle.card.specs.CaseFields.{with-value}
 use Rattle.card.specs.Numbers.{numberOf}
 use Rattle.card.specs.Refusals.{readCases}
-use Rattle.line.specs.Network.{regsAt}
-use Rattle.line.specs.Calls.{placeNumber, netWriteNumber, netAfterWrite}
+use Rattle.table.specs.Network.{regsAt}
+use Rattle.table.specs.Calls.{placeNumber, netWriteNumber, netAfterWrite}
 use Rattle.bench.specs.Calls.{wideNumber, valueNumber, netAfterValue}
 
 module _ (net : List ℕ) (row register : ℕ) where

@@ -9,8 +9,8 @@ use Rattle.card.specs.Words.{pick}
 use Rattle.card.specs.CaseFields.{with-shape, with-value}
 use Rattle.card.specs.Numbers.{none, numberOf}
 use Rattle.card.specs.Refusals.{readCases}
-use Rattle.line.specs.Network.{regsAt, shape}
-use Rattle.line.specs.Calls.{placeNumber, netWriteNumber, netAfterWrite}
+use Rattle.table.specs.Network.{regsAt, shape}
+use Rattle.table.specs.Calls.{placeNumber, netWriteNumber, netAfterWrite}
 
 -- "1 SHAPE", or 0
 unfoldable pub shapeNumber : List ℕ → ℕ

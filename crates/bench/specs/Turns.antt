@@ -7,7 +7,7 @@ use lib.ListN.{take, drop}
 use Rattle.card.specs.Words.{pick}
 use Rattle.words.specs.Words.{word}
 use Rattle.words.specs.Hex.{unhex}
-use Rattle.line.specs.Calls.{netAfterRead, netAfterReset, netAfterTimer, netAfterFresh}
+use Rattle.table.specs.Calls.{netAfterRead, netAfterReset, netAfterTimer, netAfterFresh}
 use Rattle.line.specs.Step.{step}
 use Rattle.desk.specs.Load.{netAfterLoad}
 use Rattle.desk.specs.Lap.{netAfterLap}

@@ -1,7 +1,6 @@
 // The answer lines.
 use crate::requests::Mistake;
 use card::row::Reading;
-use line::calls::Interrupting;
 use line::step::Answer;
 use line::traffic::Outcome;
 use print::gather::ROOM;
@@ -10,6 +9,7 @@ use print::gather::end;
 use print::gather::number;
 use print::gather::put;
 use print::gather::text;
+use table::calls::Interrupting;
 
 // A line of its own.
 pub fn whole(out: &mut [u8; ROOM], s: &[u8]) {

@@ -3,7 +3,7 @@ ghost use mathlib.Core.Path.{_≡_};
 ghost use Prim.Native.Nat.{_≤_};
 ghost use lib.ListN.{length};
 ghost use Rattle.words.specs.Hex.{unhex};
-ghost use Rattle.line.specs.Network.{rowLimit};
+ghost use Rattle.table.specs.Network.{rowLimit};
 ghost use Rattle.desk.specs.Load.{loadNumber, netAfterLoad};
 ghost use Rattle.desk.specs.Lap.{netAfterLap};
 ghost use Rattle.bench.specs.Input.{LINE};
@@ -11,13 +11,13 @@ ghost use Rattle.bench.specs.Calls.{shapeNumber, inside, poked, wideNumb
 use crate::answers::refused;
 use card::numbers::Cases;
 use desk::laps::Taker;
-use line::network::ROWS;
-use line::network::regs_at;
-use line::network::shape;
 use print::gather::ROOM;
 use print::gather::end;
 use print::gather::number;
 use print::gather::text;
+use table::network::ROWS;
+use table::network::regs_at;
+use table::network::shape;
 
 // SHAPE alone: 0 where the network is well formed.
 pub fn shape_number(net: &[u8]) -> u8
@@ -68,7 +68,7 @@ pub fn load(net: &mut [u8], digits: &[u8]) -> u8
 fn wide_value(net: &[u8], row: usize, register: usize) -> u8
     ensures { λ r. ⌜ r ≡ wideNumber (now (net .entry)) row register ⌝ }
 {
-    let number = line::calls::place_number(net, row);
+    let number = table::calls::place_number(net, row);
     if number != 0 {
         return number;
     }
@@ -85,7 +85,7 @@ pub fn write(net: &mut [u8], row: usize, register: usize, value: usize) -> u8
     if 255 < value {
         return wide_value(net, row, register);
     }
-    line::calls::write(net, row, register, value as u8)
+    table::calls::write(net, row, register, value as u8)
 }
 
 // The ID, the row and the invitations of each of the first `count` takers.

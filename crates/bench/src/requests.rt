@@ -4,7 +4,7 @@ ghost use Rattle.card.specs.Words.{pick};
 ghost use Rattle.words.specs.Words.{same};
 ghost use Rattle.bench.specs.Requests.{wordOf, takes, formOf, argument, made, askedOf, asked};
 use crate::turns::NET;
-use line::network::wide;
+use table::network::wide;
 use words::hex::hex_fits;
 use words::numbers::Number;
 use words::numbers::decimal;

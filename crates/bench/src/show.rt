@@ -1,7 +1,7 @@
 // A table of the rows, for a person.
 ghost use Prim.Native.Nat.{_≤_};
 ghost use lib.ListN.{length};
-ghost use Rattle.line.specs.Network.{rowStart};
+ghost use Rattle.table.specs.Network.{rowStart};
 use crate::answers::done;
 use crate::answers::refused;
 use crate::answers::whole;
@@ -13,18 +13,18 @@ use card::regs::RI;
 use card::regs::Regs;
 use card::regs::TA;
 use card::regs::TMA;
-use line::network::LOST;
-use line::network::PASS;
-use line::network::phase;
-use line::network::regs_at;
-use line::network::rows;
-use line::network::wide;
 use print::gather::ROOM;
 use print::gather::column;
 use print::gather::decimal;
 use print::gather::end;
 use print::gather::number;
 use print::gather::text;
+use table::network::LOST;
+use table::network::PASS;
+use table::network::phase;
+use table::network::regs_at;
+use table::network::rows;
+use table::network::wide;
 
 fn flag(out: &mut [u8; ROOM], n: usize, status: u8, bit: u8, name: &[u8]) -> usize {
     if status & bit == 0 {
@@ -108,6 +108,6 @@ pub fn show(out: &mut [u8; ROOM], net: &[u8]) {
     }
     whole(out, b" ROW  ID NID  LINE  TX   RX  FLAGS");
     table(out, net, rows(net));
-    holder(out, phase(net), line::network::holder(net));
+    holder(out, phase(net), table::network::holder(net));
     done(out);
 }

@@ -48,12 +48,12 @@ fn sum(out: &mut [u8; ROOM], net: &[u8]) {
 }
 
 fn data(out: &mut [u8; ROOM], net: &[u8], row: usize, page: usize) {
-    let number = line::calls::data_number(net, row, page);
+    let number = table::calls::data_number(net, row, page);
     if number != 0 {
         answers::refused(out, number);
         return;
     }
-    answers::hex(out, line::calls::page_data(net, row, page));
+    answers::hex(out, table::calls::page_data(net, row, page));
 }
 
 fn answer(out: &mut [u8; ROOM], net: &mut [u8], request: Request, line: &[u8])
@@ -67,17 +67,17 @@ fn answer(out: &mut [u8; ROOM], net: &mut [u8], request: Request, line: &[u8])
         Request::Peek(at, count) => peek(out, net, at, count),
         Request::Sum => sum(out, net),
         Request::Check => check(out, net),
-        Request::Fresh(n) => answers::numbered(out, line::calls::fresh(net, n)),
+        Request::Fresh(n) => answers::numbered(out, table::calls::fresh(net, n)),
         Request::Load => answers::numbered(out, calls::load(net, word(line, 1))),
         Request::Read(row, register) => {
-            answers::reading(out, line::calls::read(net, row, register))
+            answers::reading(out, table::calls::read(net, row, register))
         }
         Request::Write(row, register, value) => {
             answers::numbered(out, calls::write(net, row, register, value))
         }
-        Request::Reset(row) => answers::numbered(out, line::calls::reset(net, row)),
-        Request::Timer(row) => answers::numbered(out, line::calls::timer(net, row)),
-        Request::Interrupt(row) => answers::interrupting(out, line::calls::interrupt(net, row)),
+        Request::Reset(row) => answers::numbered(out, table::calls::reset(net, row)),
+        Request::Timer(row) => answers::numbered(out, table::calls::timer(net, row)),
+        Request::Interrupt(row) => answers::interrupting(out, table::calls::interrupt(net, row)),
         Request::Step(fault) => answers::step(out, line::step::step(net, fault)),
         Request::Data(row, page) => data(out, net, row, page),
         Request::Lap(room) => calls::lap(out, net, room),

@@ -9,20 +9,20 @@ use native.Mathlib.Omega.{arith}
 use lib.ListN.{length}
 use borrow.Author.Tests.{eq-eqb}
 use Rattle.card.proofs.Bools.{cases}
-use Rattle.line.specs.Network.{rows, phase, holder, LOST, TAKEN, regsAt, isNode, topId, shape}
+use Rattle.table.specs.Network.{rows, phase, holder, LOST, TAKEN, regsAt, isNode, topId, shape}
 use Rattle.line.specs.Step.{step, highest, answerValue}
-use Rattle.line.proofs.Folds.{seek-is, some-not}
-use Rattle.line.proofs.Shapes.{Held as IsHeld, shape-ids}
-use Rattle.line.proofs.Nodes.{node-online, node-id, nodeOf-found, online-id}
-use Rattle.line.proofs.Holders.{highest-held}
+use Rattle.table.proofs.Folds.{seek-is, some-not}
+use Rattle.table.proofs.Shaped.Shapes.{Held as IsHeld, shape-ids}
+use Rattle.table.proofs.Online.Nodes.{node-online, node-id, nodeOf-found, online-id}
+use Rattle.line.proofs.Steps.Holders.{highest-held}
 use Rattle.desk.specs.Lap.{nodes, after, answers, passed, firstHolder, back, lapSteps}
-use Rattle.line.proofs.View.{Rams, AfterLost, lost-step}
+use Rattle.line.proofs.Steps.View.{Rams, AfterLost, lost-step}
 use Rattle.desk.proofs.Ring.{Call, Took, Spoke, roster}
 use Rattle.desk.proofs.Count.{Ids, some-online, roster-online, top-above}
 use Rattle.desk.proofs.FirstLap.{other, before, Lap, lap, never-before, lap-counts}
 use Rattle.desk.proofs.Steps.{after-none, after-first, after-more, answers-first, answers-more, seen}
 use Rattle.desk.proofs.Told.{never-at, not-to, took-passed}
-use Rattle.line.proofs.Calm.{alike-nodes}
+use Rattle.table.proofs.Access.Calm.{alike-nodes}
 use Rattle.desk.proofs.Shows.{on, row-on, Shows}
 use Rattle.desk.proofs.Follow.{Followed, follow, Run, runs}
 

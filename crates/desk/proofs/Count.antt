@@ -12,10 +12,10 @@ use lib.Dec.{eqb, ltb}
 use borrow.Author.Tests.{eqb-true, eqb-false, ltb-true, ltb-false}
 use Rattle.card.specs.Words.{pick}
 use Rattle.card.proofs.Bools.{cases, and-right, pick-of}
-use Rattle.line.specs.Folds.{some}
-use Rattle.line.specs.Network.{rows, regsAt, onLineAt, isNode, topId}
-use Rattle.line.proofs.Folds.{clash, some-none, some-more, some-not}
-use Rattle.line.proofs.Nodes.{topId-more, node-of, node-online, node-id}
+use Rattle.table.specs.Folds.{some}
+use Rattle.table.specs.Network.{rows, regsAt, onLineAt, isNode, topId}
+use Rattle.table.proofs.Folds.{clash, some-none, some-more, some-not}
+use Rattle.table.proofs.Online.Nodes.{topId-more, node-of, node-online, node-id}
 use Rattle.desk.specs.Lap.{online}
 use Rattle.desk.proofs.Ring.{calls, roster}
 use Rattle.desk.proofs.Roster.{calls-none}

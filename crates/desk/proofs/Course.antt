@@ -11,12 +11,12 @@ use Rattle.card.specs.Words.{pick}
 use Rattle.card.proofs.Bools.{pick-of}
 use Rattle.line.specs.declared.step.Answer.{Answer}
 use Rattle.line.specs.declared.step.Answer.the-variants.{Refused, Quiet, Recovered, Passed, Unanswered, TokenLost, Held}
-use Rattle.line.specs.Folds.{seek}
-use Rattle.line.specs.Network.{rowLimit, rows, phase, LOST, regsAt, onLineAt, shape}
+use Rattle.table.specs.Folds.{seek}
+use Rattle.table.specs.Network.{rowLimit, rows, phase, LOST, regsAt, onLineAt, shape}
 use Rattle.line.specs.Step.{step, answerValue}
-use Rattle.line.proofs.Folds.{seek-is}
-use Rattle.line.proofs.Shapes.{shape-rows}
-use Rattle.line.proofs.View.{Rams, Alike, AfterLost, passed-row}
+use Rattle.table.proofs.Folds.{seek-is}
+use Rattle.table.proofs.Shaped.Shapes.{shape-rows}
+use Rattle.line.proofs.Steps.View.{Rams, Alike, AfterLost, passed-row}
 use Rattle.desk.specs.declared.laps.Taker.{Taker}
 use Rattle.desk.specs.Lap.{online, nodes, after, answers, invitation, passed, invitations, entry, takers, firstHolder, back, lapSteps}
 use Rattle.desk.proofs.Steps.{after-first, answers-none, answers-first, answers-more, since, takers-none, takers-more}

@@ -7,11 +7,11 @@ use Prim.Native.Nat.{ℕ, zero, suc, _+_, _*_, _%_, _≤_}
 use native.Mathlib.Omega.{arith}
 use lib.ListN.{length, length-append}
 use Rattle.card.specs.Words.{pick}
-use Rattle.line.specs.Network.{rows, phase, holder, LOST, TAKEN, shape}
+use Rattle.table.specs.Network.{rows, phase, holder, LOST, TAKEN, shape}
 use Rattle.line.specs.Step.{highest}
-use Rattle.line.proofs.Shapes.{shape-ids}
-use Rattle.line.proofs.Alike.{bytes-rams}
-use Rattle.line.proofs.View.{Rams}
+use Rattle.table.proofs.Shaped.Shapes.{shape-ids}
+use Rattle.table.proofs.Shaped.Alike.{bytes-rams}
+use Rattle.line.proofs.Steps.View.{Rams}
 use Rattle.desk.specs.Lap.{nodes}
 use Rattle.desk.specs.Demand.{Call, table, steps, answersOf, Throughout, idsFrom, idsOnLine, LapOf, Demand3}
 use Rattle.desk.proofs.Ring as ring

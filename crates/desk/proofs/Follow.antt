@@ -10,15 +10,15 @@ use lib.Dec.{eqb, ltb}
 use lib.ListN.{length}
 use borrow.Author.Tests.{eqb-true, eqb-false, ltb-true, ltb-false}
 use Rattle.card.proofs.Bools.{cases}
-use Rattle.line.specs.Network.{rows, phase, holder, regsAt, onLineAt, shape}
+use Rattle.table.specs.Network.{rows, phase, holder, regsAt, onLineAt, shape}
 use Rattle.line.specs.Step.{step, invited, taker, answerValue}
-use Rattle.line.proofs.Shapes.{shape-ids}
+use Rattle.table.proofs.Shaped.Shapes.{shape-ids}
 use Rattle.desk.specs.Lap.{after, answers, passed}
-use Rattle.line.proofs.View.{Alike, alike-then, taker-step, AfterNone, none-step, held-step}
+use Rattle.line.proofs.Steps.View.{Alike, alike-then, taker-step, AfterNone, none-step, held-step}
 use Rattle.desk.proofs.Ring.{Call, Took, Missed, Spoke, Ring, next, upd, turn, Runs, stop, go}
 use Rattle.desk.proofs.Scan.{upd-same, upd-other}
 use Rattle.desk.proofs.Steps.{after-none, after-first, answers-none, answers-first, seen}
-use Rattle.line.proofs.Calm.{alike-nodes, same-nodes-then}
+use Rattle.table.proofs.Access.Calm.{alike-nodes, same-nodes-then}
 use Rattle.desk.proofs.Shows.{on, phaseOf, Shows, invites, took-row, took-on, took-id, took-heeds, missed}
 
 module _ (net : List ℕ) (s : shape net ≡ true) where

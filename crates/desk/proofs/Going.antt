@@ -16,9 +16,9 @@ use Rattle.card.specs.Words.{pick}
 use Rattle.card.proofs.Bools.{cases}
 use Rattle.line.specs.declared.step.Answer.{Answer}
 use Rattle.line.specs.declared.step.Answer.the-variants.{Refused, Quiet, Recovered, Passed, Unanswered, TokenLost, Held}
-use Rattle.line.specs.Network.{rows, regsAt}
+use Rattle.table.specs.Network.{rows, regsAt}
 use Rattle.line.specs.Step.{step, answerValue}
-use Rattle.line.proofs.Folds.{clash}
+use Rattle.table.proofs.Folds.{clash}
 use Rattle.desk.specs.declared.laps.Taker.{Taker}
 use Rattle.desk.specs.Lap.{nodes, after, answers, invitation, passed, invitations, entry, nobody, takers}
 use Rattle.desk.proofs.Steps.{after-none, after-more, answers-none, answers-more, since, since-none, since-more, invitations-none, invitations-more, takers-none, takers-more}

@@ -8,11 +8,11 @@ use native.Mathlib.Nat.{suc-inj}
 use native.Mathlib.Omega.{arith}
 use lib.ListN.{length}
 use Rattle.line.specs.declared.step.Answer.{Answer}
-use Rattle.line.specs.Network.{rows, phase, holder, regsAt, onLineAt, shape, SameNodes}
+use Rattle.table.specs.Network.{rows, phase, holder, regsAt, onLineAt, shape, SameNodes}
 use Rattle.line.specs.Step.{step}
-use Rattle.line.proofs.View.{Rams}
+use Rattle.line.proofs.Steps.View.{Rams}
 use Rattle.desk.specs.Demand.{Call, Step, Read, Write, Reset, Look, called, table, steps, answersOf, Throughout}
-use Rattle.line.proofs.Calm.{Calm, calm-read, calm-write, calm-reset, calm-same, same-nodes-then}
+use Rattle.table.proofs.Access.Calm.{Calm, calm-read, calm-write, calm-reset, calm-same, same-nodes-then}
 use Rattle.desk.proofs.Ring as ring
 use Rattle.desk.proofs.Ring.{Ring, turn, Runs, stop, go}
 use Rattle.desk.proofs.Steps.{seen}

@@ -10,7 +10,7 @@ use lib.Dec.{ltb}
 use borrow.Author.Tests.{ltb-true, ltb-false}
 use Rattle.line.specs.declared.step.Answer.{Answer}
 use Rattle.line.specs.declared.step.Answer.the-variants.{Refused, Quiet, Recovered, Passed, Unanswered, TokenLost, Held}
-use Rattle.line.specs.Network.{regsAt}
+use Rattle.table.specs.Network.{regsAt}
 use Rattle.desk.specs.declared.laps.Taker.{Taker}
 use Rattle.desk.specs.Lap.{takers}
 use Rattle.desk.proofs.Ring.{Call, Took, Missed, Spoke, calls, script}

@@ -6,9 +6,9 @@ use mathlib.Core.List.{List, [], _∷_}
 use Prim.Native.Nat.{ℕ, suc, _<_}
 use Rattle.line.specs.declared.step.Answer.{Answer}
 use Rattle.line.specs.declared.step.Answer.the-variants.{Refused, Quiet, Recovered, Passed, Unanswered, TokenLost, Held}
-use Rattle.line.specs.Network.{rows, onLineAt}
+use Rattle.table.specs.Network.{rows, onLineAt}
 use Rattle.line.specs.Step.{answerValue}
-use Rattle.line.proofs.Nodes.{node-of}
+use Rattle.table.proofs.Online.Nodes.{node-of}
 use Rattle.desk.specs.Lap.{passed, takers}
 use Rattle.desk.specs.Demand.{ByNodes}
 

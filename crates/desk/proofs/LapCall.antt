@@ -7,11 +7,11 @@ use Prim.Native.Nat.{ℕ, zero, suc, _+_, _*_, _<_}
 use native.Mathlib.Omega.{arith}
 use lib.ListN.{length, getD}
 use borrow.Author.Tests.{eq-eqb}
-use Rattle.line.specs.Network.{shape}
+use Rattle.table.specs.Network.{shape}
 use Rattle.line.specs.Step.{step}
-use Rattle.line.proofs.Alike.{bytes-rams}
-use Rattle.line.proofs.View.{Rams, Alike, alike-same, alike-then, any-step}
-use Rattle.line.proofs.Calm.{alike-nodes}
+use Rattle.table.proofs.Shaped.Alike.{bytes-rams}
+use Rattle.line.proofs.Steps.View.{Rams, Alike, alike-same, alike-then, any-step}
+use Rattle.table.proofs.Access.Calm.{alike-nodes}
 use Rattle.desk.specs.Lap.{nodes, after, answers, lapSteps, lapNumber, lapped, netAfterLap, lapTakers, takers}
 use Rattle.desk.specs.Demand.{Call, Step, Ready, table, steps, answersOf, Throughout, LapOf}
 use Rattle.desk.specs.Promises.{TheLap, LapCallIsTheLap}

@@ -6,10 +6,10 @@ use mathlib.Core.List.{List, [], _∷_, map}
 use Prim.Native.Nat.{ℕ, suc, _+_, _<_, _≤_}
 use native.Mathlib.Omega.{arith}
 use lib.ListN.{length, length-map, length-append}
-use Rattle.line.specs.Network.{phase, LOST, shape}
+use Rattle.table.specs.Network.{phase, LOST, shape}
 use Rattle.desk.specs.declared.laps.Taker.{Taker}
 use Rattle.desk.specs.Lap.{nodes, answers, invitations, takers, back, lapSteps}
-use Rattle.line.proofs.View.{Rams}
+use Rattle.line.proofs.Steps.View.{Rams}
 use Rattle.desk.proofs.Ring.{calls, roster}
 use Rattle.desk.proofs.Roster.{takes, invites, roster-is}
 use Rattle.desk.proofs.FirstLap.{before, lap-takes, lap-counts}

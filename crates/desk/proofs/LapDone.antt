@@ -7,8 +7,8 @@ use Prim.Native.Nat.{ℕ, _≤_}
 use native.Mathlib.Omega.{arith}
 use lib.ListN.{take, drop}
 use borrow.Author.Tests.{eq-eqb, ne-eqb}
-use Rattle.line.specs.Network.{rows, shape}
-use Rattle.line.proofs.Shapes.{shape-rows}
+use Rattle.table.specs.Network.{rows, shape}
+use Rattle.table.proofs.Shaped.Shapes.{shape-rows}
 use Rattle.desk.specs.declared.laps.Taker.{Taker}
 use Rattle.desk.specs.declared.laps.Lapped.{Lapped}
 use Rattle.desk.specs.Lap.{nodes, after, answers, invitations, takers, lapSteps, lapNumber, lapped, netAfterLap, lapTakers, nobody, Walks}

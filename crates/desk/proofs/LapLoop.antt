@@ -12,12 +12,12 @@ use Rattle.card.specs.declared.regs.Regs.{Regs}
 use Rattle.card.specs.Words.{pick}
 use Rattle.line.specs.declared.step.Answer.{Answer}
 use Rattle.card.specs.Row.{rowBytes}
-use Rattle.line.specs.Network.{rowStart, rows, phase, LOST, regsAt, shape}
+use Rattle.table.specs.Network.{rowStart, rows, phase, LOST, regsAt, shape}
 use Rattle.line.specs.Step.{stepTurn, step, answerValue}
 use Rattle.line.specs.Traffic.{Turn}
-use Rattle.line.proofs.StepIs.{step-is}
-use Rattle.line.proofs.Shapes.{shape-within, shape-rows, shape-length}
-use Rattle.line.proofs.View.{Rams, any-step}
+use Rattle.line.proofs.Steps.StepIs.{step-is}
+use Rattle.table.proofs.Shaped.Shapes.{shape-within, shape-rows, shape-length}
+use Rattle.line.proofs.Steps.View.{Rams, any-step}
 use Rattle.desk.specs.declared.laps.Taker.{Taker}
 use Rattle.desk.specs.Lap.{nodes, after, answers, invitation, passed, invitations, nobody, takers, lapSteps}
 use Rattle.desk.proofs.Steps.{after-more}

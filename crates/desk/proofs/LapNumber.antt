@@ -12,7 +12,7 @@ use Rattle.card.specs.declared.numbers.Cases.{Cases}
 use Rattle.card.specs.CaseFields.{with-shape, with-busy, with-alone, with-room}
 use Rattle.card.specs.Numbers.{none, numberOf, placed}
 use Rattle.card.proofs.Order.{tests, none-holds, placed-shape}
-use Rattle.line.specs.Network.{rows, phase, LOST, shape}
+use Rattle.table.specs.Network.{rows, phase, LOST, shape}
 use Rattle.desk.specs.Lap.{online, nodes, lapCases, lapNumber}
 
 module _ (net : List ℕ) (room : ℕ) where

@@ -11,10 +11,10 @@ use Rattle.card.specs.Registers.{hardwareReset}
 use Rattle.card.specs.Events.{burst}
 use Rattle.card.proofs.Kept.{on-line-same, reset-off, kept-burst}
 use Rattle.card.proofs.Loads.{prepared, named, sized, opened, joined, Loads, loads}
-use Rattle.line.specs.Network.{rows, phase, LOST, regsAt, onLineAt, isNode, shape}
-use Rattle.line.specs.Calls.{netWriteNumber, netAfterWrite}
-use Rattle.line.proofs.Nodes.{online-is}
-use Rattle.line.proofs.Writes.{Written, written-same, write-stays, write-joins}
+use Rattle.table.specs.Network.{rows, phase, LOST, regsAt, onLineAt, isNode, shape}
+use Rattle.table.specs.Calls.{netWriteNumber, netAfterWrite}
+use Rattle.table.proofs.Online.Nodes.{online-is}
+use Rattle.table.proofs.Access.Writes.{Written, written-same, write-stays, write-joins}
 use Rattle.desk.specs.Order.{RECEIVE, LONG}
 use Rattle.desk.specs.Load.{set19, setId, setLong, setReceive, set38, loadedRow}
 

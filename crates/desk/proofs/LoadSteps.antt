@@ -14,11 +14,11 @@ use Rattle.card.specs.Words.{pick, has}
 use Rattle.card.specs.CaseFields.{with-order}
 use Rattle.card.specs.Numbers.{none, numberOf}
 use Rattle.card.proofs.Order.{number-order}
-use Rattle.line.specs.Network.{rows, shape}
-use Rattle.line.specs.Calls.{netAfterWrite, freshNumber, netAfterFresh, freshNet}
-use Rattle.line.proofs.Fresh.{fresh-refused, fresh-net, header-fresh}
-use Rattle.line.proofs.CallsKeep.{write-keeps, fresh-keeps}
-use Rattle.line.proofs.Beside.{beside-count, write-beside}
+use Rattle.table.specs.Network.{rows, shape}
+use Rattle.table.specs.Calls.{netAfterWrite, freshNumber, netAfterFresh, freshNet}
+use Rattle.table.proofs.Access.Fresh.{fresh-refused, fresh-net, header-fresh}
+use Rattle.table.proofs.Access.CallsKeep.{write-keeps, fresh-keeps}
+use Rattle.table.proofs.Access.Beside.{beside-count, write-beside}
 use Rattle.desk.specs.Order.{records, recordAt, idAt, flagsOf, RECEIVE, LONG, orderFits}
 use Rattle.desk.specs.Load.{set19, setId, setLong, setReceive, loadedRow, loadedRows, loadNumber, netAfterLoad}
 use Rattle.desk.proofs.OrderLaws.{order-records}

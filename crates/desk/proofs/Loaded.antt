@@ -18,12 +18,12 @@ use Rattle.card.proofs.Bools.{cases}
 use Rattle.card.proofs.Order.{number-order}
 use Rattle.card.proofs.Stays.{fresh-off}
 use Rattle.card.proofs.Loads.{regs-fresh}
-use Rattle.line.specs.Network.{rowStart, rows, phase, LOST, rowAt, regsAt, onLineAt, isNode, shape}
-use Rattle.line.specs.Calls.{netAfterFresh, freshNet}
-use Rattle.line.proofs.Folds.{clash}
-use Rattle.line.proofs.Nodes.{online-is, node-online, node-id, online-same}
-use Rattle.line.proofs.Fresh.{fresh-room, fresh-net, header-fresh, rowAt-fresh}
-use Rattle.line.proofs.CallsKeep.{fresh-keeps}
+use Rattle.table.specs.Network.{rowStart, rows, phase, LOST, rowAt, regsAt, onLineAt, isNode, shape}
+use Rattle.table.specs.Calls.{netAfterFresh, freshNet}
+use Rattle.table.proofs.Folds.{clash}
+use Rattle.table.proofs.Online.Nodes.{online-is, node-online, node-id, online-same}
+use Rattle.table.proofs.Access.Fresh.{fresh-room, fresh-net, header-fresh, rowAt-fresh}
+use Rattle.table.proofs.Access.CallsKeep.{fresh-keeps}
 use Rattle.desk.specs.Order.{records, recordAt, idAt, flagsOf, orderFits}
 use Rattle.desk.specs.Load.{loadedRow, loadedRows, loadNumber, netAfterLoad}
 use Rattle.desk.proofs.OrderLaws.{order-records, order-id, order-differ}

@@ -8,15 +8,16 @@ use lib.Dec.{eqb}
 use lib.ListN.{length, take, drop, take-append-drop}
 use lib.Seq.{length-take-le}
 use borrow.Author.Tests.{ne-eqb}
-use Rattle.line.proofs.Refused.{read-refused, write-refused, reset-refused, timer-refused, interrupt-refused, data-refused, fresh-refused, step-refused}
-use Rattle.line.proofs.Alike.{bytes-rams}
-use Rattle.line.proofs.Others.{read-only, read-header, write-only, reset-only, timer-only}
-use Rattle.line.proofs.StepBy.{frame-step}
-use Rattle.line.proofs.Bystanding.{fills, bystands}
-use Rattle.line.proofs.TheHolder.{sends, holder-left}
-use Rattle.line.proofs.Faults.{idle-fault}
+use Rattle.table.proofs.Access.Refused.{read-refused, write-refused, reset-refused, timer-refused, interrupt-refused, data-refused, fresh-refused}
+use Rattle.line.proofs.Steps.Refused.{step-refused}
+use Rattle.table.proofs.Shaped.Alike.{bytes-rams}
+use Rattle.table.proofs.Access.Others.{read-only, read-header, write-only, reset-only, timer-only}
+use Rattle.line.proofs.Steps.StepBy.{frame-step}
+use Rattle.line.proofs.Promised.Bystanding.{fills, bystands}
+use Rattle.line.proofs.Promised.TheHolder.{sends, holder-left}
+use Rattle.line.proofs.Promised.Faults.{idle-fault}
 use Rattle.card.proofs.CardSums.{data-sizes}
-use Rattle.line.specs.Network.{rowLimit}
+use Rattle.table.specs.Network.{rowLimit}
 use Rattle.desk.specs.declared.laps.Taker.{Taker}
 use Rattle.desk.specs.declared.laps.Lapped.{Lapped}
 use Rattle.desk.specs.Load.{loadNumber, netAfterLoad}

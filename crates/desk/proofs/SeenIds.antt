@@ -11,8 +11,8 @@ use lib.ListN.{length, getD, set, replicate, length-set, length-replicate, getD-
 use lib.Seq.{getD-set-same, getD-set-other}
 use borrow.Author.Tests.{eqb-true, eqb-false}
 use Rattle.card.proofs.Bools.{cases, or-true}
-use Rattle.line.specs.Folds.{every, some}
-use Rattle.line.proofs.Folds.{every-none, every-more, every-broken, some-none, some-more}
+use Rattle.table.specs.Folds.{every, some}
+use Rattle.table.proofs.Folds.{every-none, every-more, every-broken, some-none, some-more}
 use Rattle.desk.specs.Order.{idAt, idsDiffer}
 
 or-false : (a : Bool) → (a || false) ≡ a

@@ -9,13 +9,13 @@ use native.Mathlib.Omega.{arith}
 use lib.Dec.{eqb}
 use borrow.Author.Tests.{ne-eqb, eqb-false}
 use Rattle.card.proofs.Bools.{cases}
-use Rattle.line.specs.Network.{rows, phase, holder, PASS, TAKEN, regsAt, onLineAt, isNode, shape}
+use Rattle.table.specs.Network.{rows, phase, holder, PASS, TAKEN, regsAt, onLineAt, isNode, shape}
 use Rattle.line.specs.Step.{invited, taker}
-use Rattle.line.proofs.Folds.{clash, some-at, some-not}
-use Rattle.line.proofs.Shapes.{shape-ids}
-use Rattle.line.proofs.Nodes.{node-of, node-online, node-id, nodeOf-most, nodeOf-found, nodeOf-fails}
-use Rattle.line.proofs.View.{Rams}
-use Rattle.line.specs.Network.{SameNodes}
+use Rattle.table.proofs.Folds.{clash, some-at, some-not}
+use Rattle.table.proofs.Shaped.Shapes.{shape-ids}
+use Rattle.table.proofs.Online.Nodes.{node-of, node-online, node-id, nodeOf-most, nodeOf-found, nodeOf-fails}
+use Rattle.line.proofs.Steps.View.{Rams}
+use Rattle.table.specs.Network.{SameNodes}
 use Rattle.desk.proofs.Ring.{Ring, next, heeds}
 use Rattle.desk.proofs.Scan.{and-false}
 use Rattle.desk.proofs.Count.{onFirst}

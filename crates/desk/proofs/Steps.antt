@@ -10,7 +10,7 @@ use Rattle.card.specs.Words.{pick}
 use Rattle.card.proofs.Bools.{pick-of}
 use Rattle.line.specs.declared.step.Answer.{Answer}
 use Rattle.line.specs.declared.step.Answer.the-variants.{Refused, Quiet, Recovered, Passed, Unanswered, TokenLost, Held}
-use Rattle.line.specs.Network.{regsAt}
+use Rattle.table.specs.Network.{regsAt}
 use Rattle.line.specs.Step.{step, answerValue}
 use Rattle.desk.specs.declared.laps.Taker.{Taker}
 use Rattle.desk.specs.Lap.{after, answers, invitation, passed, invitations, entry, takers}

@@ -5,8 +5,8 @@ use mathlib.Core.List.{List, _∷_, map}
 use Prim.Native.Nat.{ℕ, _+_}
 use lib.ListN.{take}
 use Rattle.card.proofs.CardSums.{count-2, count-3, count-255, long-3, long-4, long-255, page-2C, page-0B, nid-255, pointer-1023, status-reset, status-written}
-use Rattle.line.specs.Network.{rows, topId}
-use Rattle.line.proofs.Alike.{bytes-rams}
+use Rattle.table.specs.Network.{rows, topId}
+use Rattle.table.proofs.Shaped.Alike.{bytes-rams}
 use Rattle.desk.specs.Lap.{nodes, answers, invitations, takers, lapSteps}
 use Rattle.desk.specs.Demand.{Ready, idsOnLine}
 use Rattle.desk.specs.Sums.{hopOf, Sums}

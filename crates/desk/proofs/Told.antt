@@ -12,9 +12,9 @@ use borrow.Author.Tests.{eq-eqb, eqb-true}
 use Rattle.card.proofs.Bools.{cases}
 use Rattle.line.specs.declared.step.Answer.{Answer}
 use Rattle.line.specs.declared.step.Answer.the-variants.{Refused, Quiet, Recovered, Passed, Unanswered, TokenLost, Held}
-use Rattle.line.specs.Network.{regsAt}
+use Rattle.table.specs.Network.{regsAt}
 use Rattle.line.specs.Step.{step, answerValue}
-use Rattle.line.proofs.Folds.{clash}
+use Rattle.table.proofs.Folds.{clash}
 use Rattle.desk.specs.Lap.{after, answers, passed}
 use Rattle.desk.proofs.Ring.{Call, Spoke}
 use Rattle.desk.proofs.FirstLap.{other, Never}

@@ -7,14 +7,14 @@ use Prim.Native.Nat.{ℕ, suc, _≤_, _<_}
 use native.Mathlib.Nat.{suc-inj}
 use native.Mathlib.Omega.{arith}
 use lib.ListN.{length}
-use Rattle.line.specs.Network.{rows, phase, holder, LOST, regsAt, onLineAt, topId, shape, SameNodes}
+use Rattle.table.specs.Network.{rows, phase, holder, LOST, regsAt, onLineAt, topId, shape, SameNodes}
 use Rattle.line.specs.Step.{step, highest}
-use Rattle.line.proofs.Nodes.{node-id, nodeOf-found}
-use Rattle.line.proofs.Holders.{highest-held}
-use Rattle.line.proofs.View.{Rams, alike-same, lost-step}
+use Rattle.table.proofs.Online.Nodes.{node-id, nodeOf-found}
+use Rattle.line.proofs.Steps.Holders.{highest-held}
+use Rattle.line.proofs.Steps.View.{Rams, alike-same, lost-step}
 use Rattle.desk.specs.Lap.{nodes, passed}
 use Rattle.desk.specs.Demand.{Call, Step, Read, Write, Reset, Look, table, steps, answersOf, Throughout}
-use Rattle.line.proofs.Calm.{Calm, calm-read, calm-write, calm-reset, alike-nodes, same-nodes-then}
+use Rattle.table.proofs.Access.Calm.{Calm, calm-read, calm-write, calm-reset, alike-nodes, same-nodes-then}
 use Rattle.desk.proofs.Ring as ring
 use Rattle.desk.proofs.Ring.{Spoke, Ring, Runs}
 use Rattle.desk.proofs.Count.{top-above}

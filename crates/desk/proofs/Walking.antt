@@ -11,11 +11,11 @@ use lib.ListN.{length, length-append}
 use Rattle.card.specs.Words.{pick}
 use Rattle.card.proofs.Bools.{and-left, pick-of}
 use Rattle.line.specs.declared.step.Answer.{Answer}
-use Rattle.line.specs.Network.{phase, LOST, shape}
+use Rattle.table.specs.Network.{phase, LOST, shape}
 use Rattle.line.specs.Step.{step}
 use Rattle.desk.specs.declared.laps.Taker.{Taker}
 use Rattle.desk.specs.Lap.{nodes, after, answers, invitation, passed, invitations, entry, takers, back, lapSteps}
-use Rattle.line.proofs.View.{Rams, Alike, alike-same, alike-then, any-step}
+use Rattle.line.proofs.Steps.View.{Rams, Alike, alike-same, alike-then, any-step}
 use Rattle.desk.proofs.Steps.{after-none, after-more, answers-none, answers-more, since, since-none, since-more, invitations-none, invitations-more, takers-more}
 use Rattle.desk.proofs.Back.{is-back, lap-steps}
 use Rattle.desk.proofs.LapCounts.{lap-entries}

@@ -7,9 +7,9 @@ use Prim.Native.Nat.{ℕ, zero, suc, _+_, _*_, _≤_, _<_}
 use lib.ListN.{getD}
 use Rattle.card.specs.Words.{pick}
 use Rattle.line.specs.declared.step.Answer.{Answer}
-use Rattle.line.specs.Folds.{some}
-use Rattle.line.specs.Network.{rows, phase, holder, LOST, TAKEN, isNode, shape, SameNodes}
-use Rattle.line.specs.Calls.{netAfterRead, netAfterWrite, netAfterReset}
+use Rattle.table.specs.Folds.{some}
+use Rattle.table.specs.Network.{rows, phase, holder, LOST, TAKEN, isNode, shape, SameNodes}
+use Rattle.table.specs.Calls.{netAfterRead, netAfterWrite, netAfterReset}
 use Rattle.line.specs.Step.{highest, step}
 use Rattle.desk.specs.declared.laps.Taker.{Taker}
 use Rattle.desk.specs.Lap.{nodes, invitations, takers}

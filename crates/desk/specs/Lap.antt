@@ -12,8 +12,8 @@ use Rattle.card.specs.CaseFields.{with-shape, with-busy, with-alone, with-room}
 use Rattle.card.specs.Numbers.{none, numberOf}
 use Rattle.line.specs.declared.step.Answer.{Answer}
 use Rattle.line.specs.declared.step.Answer.the-variants.{Refused, Quiet, Recovered, Passed, Unanswered, TokenLost, Held}
-use Rattle.line.specs.Folds.{seek}
-use Rattle.line.specs.Network.{rowLimit, rows, phase, holder, LOST, regsAt, onLineAt, shape}
+use Rattle.table.specs.Folds.{seek}
+use Rattle.table.specs.Network.{rowLimit, rows, phase, holder, LOST, regsAt, onLineAt, shape}
 use Rattle.line.specs.Step.{step, answerValue}
 use Rattle.desk.specs.declared.laps.Taker.{Taker}
 use Rattle.desk.specs.declared.laps.Lapped.{Lapped}

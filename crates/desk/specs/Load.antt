@@ -7,7 +7,7 @@ use lib.Dec.{eqb}
 use Rattle.card.specs.Words.{pick, has}
 use Rattle.card.specs.CaseFields.{with-order}
 use Rattle.card.specs.Numbers.{none, numberOf}
-use Rattle.line.specs.Calls.{netAfterWrite, freshNumber, netAfterFresh}
+use Rattle.table.specs.Calls.{netAfterWrite, freshNumber, netAfterFresh}
 use Rattle.desk.specs.Order.{records, recordAt, idAt, flagsOf, RECEIVE, LONG, orderFits}
 
 -- "per row in order: configuration 19, node ID, command 0D if long, command 84 if receive on, configuration 38": each is the register write itself

@@ -6,8 +6,8 @@ use Prim.Native.Nat.{ℕ, zero, suc, _*_, _/_, _%_}
 use lib.Dec.{eqb, leb, ltb}
 use lib.ListN.{length, getD, take, drop}
 use Rattle.card.specs.Words.{pick, all}
-use Rattle.line.specs.Folds.{every, some}
-use Rattle.line.specs.Network.{rowLimit}
+use Rattle.table.specs.Folds.{every, some}
+use Rattle.table.specs.Network.{rowLimit}
 
 -- "1 to 60 records of 16 bytes": record k
 abbrev pub recordBytes : ℕ

@@ -9,8 +9,8 @@ use Rattle.card.specs.Packets.{shapeOf, dataBytes, CanBeSent, malformed}
 use Rattle.card.specs.Bystander.{Bystander, Storing, Sends}
 use Rattle.line.specs.declared.traffic.Outcome.{Outcome}
 use Rattle.line.specs.declared.step.Answer.the-variants.{Held}
-use Rattle.line.specs.Network.{headerBytes, rowLimit, rows, phase, holder, TAKEN, rowAt, regsAt, shape, SameFrame, OnlyRow}
-use Rattle.line.specs.Calls.{placeNumber, netReading, netAfterRead, netWriteNumber, netAfterWrite, netAfterReset, timerNumber, netAfterTimer, netInterrupt, netData, netDataNumber, freshNumber, netAfterFresh}
+use Rattle.table.specs.Network.{headerBytes, rowLimit, rows, phase, holder, TAKEN, rowAt, regsAt, shape, SameFrame, OnlyRow}
+use Rattle.table.specs.Calls.{placeNumber, netReading, netAfterRead, netWriteNumber, netAfterWrite, netAfterReset, timerNumber, netAfterTimer, netInterrupt, netData, netDataNumber, freshNumber, netAfterFresh}
 use Rattle.line.specs.Step.{step, answerNumber, answerValue}
 use Rattle.line.specs.Outcomes.{stores, HolderLeft, meets}
 use Rattle.desk.specs.declared.laps.Taker.{Taker}

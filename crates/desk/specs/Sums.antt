@@ -14,7 +14,7 @@ use Rattle.card.specs.Commands.{commandOf}
 use Rattle.card.specs.Registers.{pointer, stepped, hardwareReset, configured}
 use Rattle.card.specs.Packets.{shapeOf, dataBytes}
 use Rattle.card.specs.Events.{risenNid}
-use Rattle.line.specs.Network.{rows, topId}
+use Rattle.table.specs.Network.{rows, topId}
 use Rattle.desk.specs.declared.laps.Taker.{Taker}
 use Rattle.desk.specs.Lap.{nodes, answers, invitations, takers, lapSteps}
 use Rattle.desk.specs.Demand.{Ready, idsOnLine}

@@ -4,17 +4,17 @@ ghost use mathlib.Core.Bool.{true};
 ghost use mathlib.Core.List.{_++_};
 ghost use Prim.Native.Nat.{_≤_};
 ghost use lib.ListN.{length, take, drop};
-ghost use Rattle.line.specs.Network.{rowLimit, LOST, rowStart, phase, shape};
+ghost use Rattle.table.specs.Network.{rowLimit, LOST, rowStart, phase, shape};
 ghost use Rattle.desk.specs.Lap.{online, nodes, invitation, passed, invitations, takers, answers, after, lapSteps, lapNumber, lapped, netAfterLap, lapTakers, listAfterLap, nobody, Walks};
 use card::numbers::Cases;
-use line::network::LOST;
-use line::network::ROWS;
-use line::network::phase;
-use line::network::regs_at;
-use line::network::rows;
-use line::network::shape;
 use line::step::Answer;
 use line::step::step_on;
+use table::network::LOST;
+use table::network::ROWS;
+use table::network::phase;
+use table::network::regs_at;
+use table::network::rows;
+use table::network::shape;
 
 // A row that took the token: its node ID, its number from 0, and the invitations since the holder before.
 pub struct Taker {

@@ -2,7 +2,7 @@
 ghost use mathlib.Core.Path.{_≡_};
 ghost use mathlib.Core.Bool.{true};
 ghost use Prim.Native.Nat.{_<_};
-ghost use Rattle.line.specs.Network.{rows, shape};
+ghost use Rattle.table.specs.Network.{rows, shape};
 ghost use Rattle.desk.specs.Load.{loadedRow, loadNumber, netAfterLoad};
 use crate::orders::LONG;
 use crate::orders::RECEIVE;
@@ -11,8 +11,8 @@ use crate::orders::id_at;
 use crate::orders::order_fits;
 use crate::orders::records;
 use card::numbers::Cases;
-use line::calls::fresh;
-use line::calls::write_on;
+use table::calls::fresh;
+use table::calls::write_on;
 
 // The registers that are written.
 const COMMAND: usize = 1;

@@ -3,7 +3,7 @@ ghost use mathlib.Core.Path.{_≡_};
 ghost use Prim.Native.Nat.{_+_, _*_, _≤_};
 ghost use lib.ListN.{length};
 ghost use Rattle.desk.specs.Order.{recordBytes, records, recordAt, idAt, flagsOf, printables, recordFits, recordsFit, idsDiffer, orderFits, nameAt};
-use line::network::ROWS;
+use table::network::ROWS;
 
 pub const RECORD: usize = 16;
 

@@ -2,7 +2,7 @@
 // and prints the takers in the order in which they took the token; or the refusal's number.
 ghost use lib.ListN.{length};
 ghost use Prim.Native.Nat.{_+_, _*_, _≤_};
-ghost use Rattle.line.specs.Network.{rowLimit, rowStart};
+ghost use Rattle.table.specs.Network.{rowLimit, rowStart};
 ghost use Rattle.desk.specs.Order.{recordBytes};
 use card::row::ROW;
 use desk::laps::Taker;
@@ -11,8 +11,8 @@ use desk::orders::RECORD;
 use desk::orders::name_at;
 use desk::orders::records;
 use libc::STDIN_FILENO;
-use line::network::HEADER;
-use line::network::ROWS;
+use table::network::HEADER;
+use table::network::ROWS;
 
 // A byte more than the longest order, so that a longer one is seen to be too long.
 const ORDER: usize = RECORD * ROWS + 1;

@@ -15,7 +15,7 @@ use Rattle.card.specs.Words.{pick, has}
 use Rattle.card.specs.Flags.{TMA, TA}
 use Rattle.card.specs.Packets.{malformed, pageShape, destination}
 use Rattle.card.specs.Events.{heard, cancelled, sent, transmitting, receiving, transmitPage, storable}
-use Rattle.line.specs.Network.{rows, phase, holder, TAKEN, rowAt, regsAt, nodeOf}
+use Rattle.table.specs.Network.{rows, phase, holder, TAKEN, rowAt, regsAt, nodeOf}
 use Rattle.line.specs.Traffic.{onRow, damaged, takes}
 use Rattle.line.specs.Step.{stepNumber}
 

@@ -13,7 +13,7 @@ use Rattle.card.specs.Words.{pick}
 use Rattle.card.specs.CaseFields.{with-shape, with-value, with-holder}
 use Rattle.card.specs.Numbers.{none, numberOf}
 use Rattle.card.specs.Events.{risenNid}
-use Rattle.line.specs.Network.{rows, phase, holder, LOST, PASS, TAKEN, turned, regsAt, onLineAt, nodeOf, topId, shape}
+use Rattle.table.specs.Network.{rows, phase, holder, LOST, PASS, TAKEN, turned, regsAt, onLineAt, nodeOf, topId, shape}
 use Rattle.line.specs.Traffic.{Turn, onRow, happened, takenTurn}
 
 -- "3 invitation destroyed"

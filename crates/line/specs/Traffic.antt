@@ -14,7 +14,7 @@ use Rattle.card.specs.Words.{pick}
 use Rattle.card.specs.Row.{regsOf}
 use Rattle.card.specs.Packets.{malformed, pageShape, destination, packetAt, stored, stamped}
 use Rattle.card.specs.Events.{recovered, heard, answered, received, cancelled, sent, transmitting, receiving, takesBroadcasts, transmitPage, receivePage, storable}
-use Rattle.line.specs.Network.{rows, rowAt, setRow, eachRow, onRegs, regsAt, nodeOf}
+use Rattle.table.specs.Network.{rows, rowAt, setRow, eachRow, onRegs, regsAt, nodeOf}
 
 -- an answer, and the network after it
 pub record Turn (A : Type 0) : Type 0 where

@@ -1,6 +1,4 @@
-// The table of cards and the line between them (document 01), over the card's contracts.
-pub mod calls;
-pub mod network;
+// The line between the cards (document 01, "One line step"), over the contracts of the card and of the table.
 pub mod passes;
 pub mod step;
 pub mod traffic;

@@ -2,18 +2,18 @@
 // and a packet for the rows that take it.
 ghost use mathlib.Core.Path.{_≡_};
 ghost use mathlib.Core.Bool.{true, _&&_};
-ghost use Prim.Native.Nat.{_+_, _≤_};
+ghost use Prim.Native.Nat.{_≤_};
 ghost use lib.ListN.{length};
 ghost use Rattle.card.specs.Words.{pick};
-ghost use Rattle.card.specs.Row.{rowBytes, regsOf, putRegs, wellFormed};
+ghost use Rattle.card.specs.Row.{rowBytes, regsOf, wellFormed};
 ghost use Rattle.card.specs.Events.{receiving, storable};
-ghost use Rattle.line.specs.Network.{rowStart, rowAt, setRow, eachRow, onRegs, rowsFit};
+ghost use Rattle.table.specs.Network.{rowStart, eachRow, onRegs, rowsFit};
 ghost use Rattle.line.specs.Traffic.{happens, storedRow, carriedRow};
-use crate::network::HEADER;
-use crate::network::regs_at;
 use card::packets::Packet;
 use card::regs::Regs;
 use card::row::ROW;
+use table::network::HEADER;
+use table::network::regs_at;
 
 // What reaches every row at once.
 pub enum Event {
@@ -58,15 +58,6 @@ pub(crate) fn happen(net: &mut [u8], n: usize, event: Event)
         happen_row(&mut net[a..a + ROW], k, event);
         k += 1;
     }
-}
-
-// One row is given other registers.
-pub(crate) fn put_regs(net: &mut [u8], k: usize, g: Regs)
-    requires { ⌜ rowStart k + rowBytes ≤ length (now net) ⌝ }
-    ensures { λ _. ⌜ now (net .exit) ≡ setRow (now (net .entry)) k (putRegs (rowAt (now (net .entry)) k) g) ⌝ }
-{
-    let a = HEADER + ROW * k;
-    card::row::store(&mut net[a..a + ROW], g);
 }
 
 // A packet that this row takes is stored in its receive page, where that can be.

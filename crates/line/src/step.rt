@@ -2,24 +2,24 @@
 ghost use mathlib.Core.Path.{_≡_};
 ghost use mathlib.Core.Bool.{true};
 ghost use Prim.Native.Nat.{_<_};
-ghost use Rattle.line.specs.Network.{rows, holder, shape};
+ghost use Rattle.table.specs.Network.{rows, holder, shape};
 ghost use Rattle.line.specs.Step.{answerNumber, answerValue, lostTurn, passTurn, stepTurn, step};
-use crate::network::LOST;
-use crate::network::PASS;
-use crate::network::TAKEN;
-use crate::network::node_of;
-use crate::network::regs_at;
-use crate::network::rows;
-use crate::network::shape;
-use crate::network::top_id;
-use crate::network::turn;
-use crate::network::wide;
 use crate::passes::Event;
 use crate::passes::happen;
-use crate::passes::put_regs;
 use crate::traffic::Outcome;
 use crate::traffic::taken;
 use card::numbers::Cases;
+use table::network::LOST;
+use table::network::PASS;
+use table::network::TAKEN;
+use table::network::node_of;
+use table::network::put_regs;
+use table::network::regs_at;
+use table::network::rows;
+use table::network::shape;
+use table::network::top_id;
+use table::network::turn;
+use table::network::wide;
 
 // What a step answers. A row is given by its number, from 0; `Unanswered` names the ID that was invited.
 pub enum Answer {

@@ -2,18 +2,18 @@
 ghost use mathlib.Core.Path.{_≡_};
 ghost use mathlib.Core.Bool.{true};
 ghost use Prim.Native.Nat.{_<_};
-ghost use Rattle.line.specs.Network.{rows, shape};
+ghost use Rattle.table.specs.Network.{rows, shape};
 ghost use Rattle.line.specs.Traffic.{wentOut, broadcastTurn, packetTurn, enquiryTurn, tryTurn, takenTurn};
-use crate::network::HEADER;
-use crate::network::node_of;
-use crate::network::regs_at;
-use crate::network::row_at;
-use crate::network::rows;
 use crate::passes::Event;
 use crate::passes::carry;
 use crate::passes::happen;
-use crate::passes::put_regs;
 use card::row::ROW;
+use table::network::HEADER;
+use table::network::node_of;
+use table::network::put_regs;
+use table::network::regs_at;
+use table::network::row_at;
+use table::network::rows;
 
 // What becomes of the holder's packet.
 pub enum Outcome {

@@ -1,6 +1,6 @@
 -- `bench::calls::wide_value` meets its contract.
 -- Assumes nothing.
-use Rattle.line.proofs.Placed.{at-part}
+use Rattle.table.proofs.Access.Placed.{at-part}
 use Rattle.bench.proofs.Values.{wide-refused, wide-asked}
 use borrow.Author.Needs.{needs}
 use Rattle.bench.proofs.calls.wide_value.Statement.{statement}

@@ -3,7 +3,7 @@ use mathlib.Core.Path.{sym, _∙_}
 use native.Mathlib.Omega.{arith}
 use borrow.Author.Needs.{needs}
 use borrow.Author.Tests.{not-false}
-use Rattle.line.proofs.Shapes.{shape-length}
+use Rattle.table.proofs.Shaped.Shapes.{shape-length}
 use Rattle.desk.proofs.LapNumber.{no-shape, asked}
 use Rattle.desk.proofs.laps.lap_number.Statement.{statement}
 use Rattle.desk.proofs.laps.lap_number.Tie as tie

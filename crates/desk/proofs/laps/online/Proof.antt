@@ -5,7 +5,7 @@ use mathlib.Core.Path.{_≡_, sym, ap, _∙_}
 use Prim.Native.Nat.{ℕ, _+_, _≤_, _-_}
 use native.Mathlib.Omega.{arith}
 use borrow.Author.Needs.{needs}
-use Rattle.line.proofs.Nodes.{online-is}
+use Rattle.table.proofs.Online.Nodes.{online-is}
 use Rattle.desk.specs.Lap.{online}
 use Rattle.desk.proofs.Count.{online-none, online-more}
 use Rattle.desk.proofs.laps.online.Statement.{statement}

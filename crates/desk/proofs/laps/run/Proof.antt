@@ -7,8 +7,8 @@ use Prim.Native.Nat.{ℕ, _+_}
 use native.Mathlib.Omega.{arith}
 use borrow.Author.Needs.{needs}
 use Rattle.card.specs.Words.{pick}
-use Rattle.line.proofs.Alike.{bytes-rams}
-use Rattle.line.proofs.Shapes.{shape-within}
+use Rattle.table.proofs.Shaped.Alike.{bytes-rams}
+use Rattle.table.proofs.Shaped.Shapes.{shape-within}
 use Rattle.desk.proofs.Going.{Going}
 use Rattle.desk.proofs.LapLoop.{steps-left, starts, same-size, ends, going-shape, going-small, turn-other, turn-part, turn-passed}
 use Rattle.desk.proofs.laps.run.Statement.{statement}

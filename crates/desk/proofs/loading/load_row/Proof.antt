@@ -5,7 +5,7 @@ use mathlib.Core.Logic.{⊎-elim}
 use Prim.Native.Nat.{ℕ}
 use lib.ListN.{length}
 use borrow.Author.Needs.{needs}
-use Rattle.line.proofs.calls.write_on.Reads as write-on
+use Rattle.table.proofs.calls.write_on.Reads as write-on
 use Rattle.desk.specs.Order.{RECEIVE, LONG}
 use Rattle.desk.specs.Load.{set19, setId, setLong, setReceive, set38, loadedRow}
 use Rattle.desk.proofs.LoadSteps.{at-place, is-made, is-skipped, ready-19, ready-id, ready-long, ready-receive, ready-row}

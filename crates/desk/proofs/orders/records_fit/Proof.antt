@@ -7,9 +7,9 @@ use Prim.Native.Nat.{ℕ, _≤_, _-_}
 use native.Mathlib.Omega.{arith}
 use borrow.Author.Needs.{needs}
 use borrow.Author.Tests.{not-true, not-false}
-use Rattle.line.specs.Folds.{every}
+use Rattle.table.specs.Folds.{every}
 use Rattle.desk.specs.Order.{recordAt, recordFits, recordsFit}
-use Rattle.line.proofs.Folds.{every-none, every-more, every-broken}
+use Rattle.table.proofs.Folds.{every-none, every-more, every-broken}
 use Rattle.desk.proofs.orders.records_fit.Statement.{statement}
 use Rattle.desk.proofs.orders.records_fit.Tie as tie
 

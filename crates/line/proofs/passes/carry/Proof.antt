@@ -5,13 +5,13 @@ use Prim.Native.Nat.{ℕ, _-_, _≤_, _<_}
 use lib.ListN.{length}
 use native.Mathlib.Omega.{arith}
 use Rattle.card.specs.Row.{wellFormed}
-use Rattle.line.specs.Network.{rowAt, eachRow, rowsFit}
+use Rattle.table.specs.Network.{rowAt, eachRow, rowsFit}
 use Rattle.line.specs.Traffic.{carriedRow}
-use Rattle.line.proofs.Folds.{every-at}
-use Rattle.line.proofs.Networks.{mid-row, length-rowAt}
-use Rattle.line.proofs.EachRow.{eachRow-none}
-use Rattle.line.proofs.Loops.{next-row, rest-kept}
-use Rattle.line.proofs.Carry.{carries}
+use Rattle.table.proofs.Folds.{every-at}
+use Rattle.table.proofs.Rows.Networks.{mid-row, length-rowAt}
+use Rattle.table.proofs.Rows.EachRow.{eachRow-none}
+use Rattle.table.proofs.Rows.Loops.{next-row, rest-kept}
+use Rattle.line.proofs.Change.Carry.{carries}
 use borrow.Author.Needs.{needs}
 use Rattle.line.proofs.passes.carry.Statement.{statement}
 use Rattle.line.proofs.passes.carry.Tie as tie

@@ -1,6 +1,6 @@
 -- `line::passes::carry_row` meets its contract. Assumes nothing.
 use mathlib.Core.Path.{_∙_}
-use Rattle.line.proofs.Carry.{room, kept, laid-in}
+use Rattle.line.proofs.Change.Carry.{room, kept, laid-in}
 use borrow.Author.Needs.{needs}
 use Rattle.line.proofs.passes.carry_row.Statement.{statement}
 use Rattle.line.proofs.passes.carry_row.Tie as tie

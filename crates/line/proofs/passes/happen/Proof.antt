@@ -6,10 +6,10 @@ use Prim.Native.Nat.{ℕ, _-_, _≤_}
 use lib.ListN.{length}
 use native.Mathlib.Omega.{arith}
 use Rattle.line.specs.declared.passes.Event.{Event}
-use Rattle.line.specs.Network.{eachRow, onRegs}
+use Rattle.table.specs.Network.{eachRow, onRegs}
 use Rattle.line.specs.Traffic.{happens}
-use Rattle.line.proofs.EachRow.{eachRow-none}
-use Rattle.line.proofs.Loops.{next-row}
+use Rattle.table.proofs.Rows.EachRow.{eachRow-none}
+use Rattle.table.proofs.Rows.Loops.{next-row}
 use borrow.Author.Needs.{needs}
 use Rattle.line.proofs.passes.happen.Statement.{statement}
 use Rattle.line.proofs.passes.happen.Tie as tie

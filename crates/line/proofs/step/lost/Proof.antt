@@ -1,6 +1,6 @@
 -- `line::step::lost` meets its contract. Assumes nothing.
-use Rattle.line.proofs.Sends.{has-header, rows-within, header-kept}
-use Rattle.line.proofs.Turns.{node-byte, is-quiet, is-recovered}
+use Rattle.line.proofs.Turn.Sends.{has-header, rows-within, header-kept}
+use Rattle.line.proofs.Turn.Turns.{node-byte, is-quiet, is-recovered}
 use borrow.Author.Needs.{needs}
 use Rattle.line.proofs.step.lost.Statement.{statement}
 use Rattle.line.proofs.step.lost.Tie as tie

@@ -1,9 +1,9 @@
 -- `line::step::pass` meets its contract. Assumes nothing.
 use mathlib.Core.Path.{_∙_}
 use native.Mathlib.Omega.{arith}
-use Rattle.line.proofs.Shapes.{shape-rows}
-use Rattle.line.proofs.Sends.{has-header, rows-within, rows-kept, header-kept, holder-within, holder-kept}
-use Rattle.line.proofs.Turns.{is-lost, is-passed, is-unanswered}
+use Rattle.table.proofs.Shaped.Shapes.{shape-rows}
+use Rattle.line.proofs.Turn.Sends.{has-header, rows-within, rows-kept, header-kept, holder-within, holder-kept}
+use Rattle.line.proofs.Turn.Turns.{is-lost, is-passed, is-unanswered}
 use borrow.Author.Needs.{needs}
 use Rattle.line.proofs.step.pass.Statement.{statement}
 use Rattle.line.proofs.step.pass.Tie as tie

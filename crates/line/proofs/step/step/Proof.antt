@@ -2,8 +2,8 @@
 use mathlib.Core.Path.{sym, _∙_}
 use native.Mathlib.Omega.{arith}
 use borrow.Author.Tests.{not-true, not-false}
-use Rattle.line.proofs.Sends.{has-header, holder-within}
-use Rattle.line.proofs.Stepped.{held-row, no-shape, refuses, steps}
+use Rattle.line.proofs.Turn.Sends.{has-header, holder-within}
+use Rattle.line.proofs.Steps.Stepped.{held-row, no-shape, refuses, steps}
 use borrow.Author.Needs.{needs}
 use Rattle.line.proofs.step.step.Statement.{statement}
 use Rattle.line.proofs.step.step.Tie as tie

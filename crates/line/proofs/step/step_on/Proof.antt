@@ -1,8 +1,8 @@
 -- `line::step::step_on` meets its contract. Assumes nothing.
 use native.Mathlib.Omega.{arith}
-use Rattle.line.proofs.Shapes.{shape-holder}
-use Rattle.line.proofs.Sends.{has-header, header-kept}
-use Rattle.line.proofs.Turns.{in-lost, in-pass, in-taken}
+use Rattle.table.proofs.Shaped.Shapes.{shape-holder}
+use Rattle.line.proofs.Turn.Sends.{has-header, header-kept}
+use Rattle.line.proofs.Turn.Turns.{in-lost, in-pass, in-taken}
 use borrow.Author.Needs.{needs}
 use Rattle.line.proofs.step.step_on.Statement.{statement}
 use Rattle.line.proofs.step.step_on.Tie as tie

@@ -1,7 +1,7 @@
 -- `line::traffic::attempt` meets its contract. Assumes nothing.
-use Rattle.line.proofs.Shapes.{shape-within}
-use Rattle.line.proofs.Sends.{has-header, rows-within}
-use Rattle.line.proofs.Tries.{tried-malformed, tried-broadcast, tried-enquiry}
+use Rattle.table.proofs.Shaped.Shapes.{shape-within}
+use Rattle.line.proofs.Turn.Sends.{has-header, rows-within}
+use Rattle.line.proofs.Turn.Tries.{tried-malformed, tried-broadcast, tried-enquiry}
 use borrow.Author.Needs.{needs}
 use Rattle.line.proofs.traffic.attempt.Statement.{statement}
 use Rattle.line.proofs.traffic.attempt.Tie as tie

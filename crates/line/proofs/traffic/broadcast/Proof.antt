@@ -5,7 +5,7 @@ use Prim.Native.Nat.{ℕ}
 use Rattle.card.specs.declared.regs.Regs.{Regs}
 use Rattle.card.specs.Events.{sent}
 use Rattle.line.specs.Traffic.{wentOut, broadcastTurn}
-use Rattle.line.proofs.Sends.{has-header, within-kept, put-after}
+use Rattle.line.proofs.Turn.Sends.{has-header, within-kept, put-after}
 use borrow.Author.Needs.{needs}
 use Rattle.line.proofs.traffic.broadcast.Statement.{statement}
 use Rattle.line.proofs.traffic.broadcast.Tie as tie

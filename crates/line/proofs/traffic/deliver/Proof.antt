@@ -1,7 +1,7 @@
 -- `line::traffic::deliver` meets its contract. Assumes nothing.
-use Rattle.line.proofs.Shapes.{shape-within}
-use Rattle.line.proofs.Sends.{within-kept}
-use Rattle.line.proofs.Outcomes.{ack-is, delivered}
+use Rattle.table.proofs.Shaped.Shapes.{shape-within}
+use Rattle.line.proofs.Turn.Sends.{within-kept}
+use Rattle.line.proofs.Turn.Outcomes.{ack-is, delivered}
 use borrow.Author.Needs.{needs}
 use Rattle.line.proofs.traffic.deliver.Statement.{statement}
 use Rattle.line.proofs.traffic.deliver.Tie as tie

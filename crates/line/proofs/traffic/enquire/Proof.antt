@@ -2,9 +2,9 @@
 use mathlib.Core.Path.{_∙_}
 use native.Mathlib.Omega.{arith}
 use Rattle.card.proofs.Traffic.{enquired-nak, enquired-unanswered}
-use Rattle.line.proofs.Shapes.{shape-within}
-use Rattle.line.proofs.Sends.{has-header, within-kept, rows-within}
-use Rattle.line.proofs.Outcomes.{no-answer, refused, answered-by}
+use Rattle.table.proofs.Shaped.Shapes.{shape-within}
+use Rattle.line.proofs.Turn.Sends.{has-header, within-kept, rows-within}
+use Rattle.line.proofs.Turn.Outcomes.{no-answer, refused, answered-by}
 use borrow.Author.Needs.{needs}
 use Rattle.line.proofs.traffic.enquire.Statement.{statement}
 use Rattle.line.proofs.traffic.enquire.Tie as tie

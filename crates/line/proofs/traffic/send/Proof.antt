@@ -1,6 +1,6 @@
 -- `line::traffic::send` meets its contract. Assumes nothing.
-use Rattle.line.proofs.Shapes.{shape-within}
-use Rattle.line.proofs.Sends.{has-header, stamped-is, stamped-bounds, went-fits, went-damaged, went-whole}
+use Rattle.table.proofs.Shaped.Shapes.{shape-within}
+use Rattle.line.proofs.Turn.Sends.{has-header, stamped-is, stamped-bounds, went-fits, went-damaged, went-whole}
 use borrow.Author.Needs.{needs}
 use Rattle.line.proofs.traffic.send.Statement.{statement}
 use Rattle.line.proofs.traffic.send.Tie as tie

@@ -1,6 +1,6 @@
 -- `line::traffic::taken` meets its contract. Assumes nothing.
-use Rattle.line.proofs.Shapes.{shape-within}
-use Rattle.line.proofs.Tries.{cancels-ready, taken-nothing, taken-tried}
+use Rattle.table.proofs.Shaped.Shapes.{shape-within}
+use Rattle.line.proofs.Turn.Tries.{cancels-ready, taken-nothing, taken-tried}
 use borrow.Author.Needs.{needs}
 use Rattle.line.proofs.traffic.taken.Statement.{statement}
 use Rattle.line.proofs.traffic.taken.Tie as tie

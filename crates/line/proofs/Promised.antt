@@ -1,0 +1,4 @@
+-- What is promised of every step: faults, the rows that neither send nor store, the holder.
+pub mod Faults
+pub mod Bystanding
+pub mod TheHolder

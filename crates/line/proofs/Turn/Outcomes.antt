@@ -1,0 +1,67 @@
+-- The outcomes of a packet, put together from what the parts ensure.
+-- Assumes nothing.
+use mathlib.Core.Path.{_≡_, sym, _∙_, ap}
+use mathlib.Core.Bool.{Bool, true, false, not, _&&_}
+use mathlib.Core.List.{List}
+use Prim.Native.Nat.{ℕ, _≤_, _<_}
+use native.Mathlib.Omega.{arith}
+use borrow.Author.Tests.{le-ltb, lt-ltb}
+use lib.Dec.{eqb, ltb}
+use Rattle.card.specs.declared.regs.Regs.{Regs}
+use Rattle.card.specs.declared.packets.Shape.{Shape}
+use Rattle.line.specs.declared.passes.Event.the-variants.{Message}
+use Rattle.line.specs.declared.traffic.Outcome.{Outcome}
+use Rattle.line.specs.declared.traffic.Outcome.the-variants.{NoAnswer, Nak, Delivered, Unacknowledged}
+use Rattle.card.specs.Words.{pick}
+use Rattle.card.specs.Packets.{pageShape}
+use Rattle.card.specs.Row.{putRegs}
+use Rattle.card.specs.Events.{heard, sent, receiving, storable}
+use Rattle.table.specs.Network.{rows, rowAt, setRow, eachRow, onRegs, regsAt}
+use Rattle.line.specs.Traffic.{happens, acknowledged, wentOut, packetTurn, enquiryTurn}
+use Rattle.line.proofs.Turn.Sends.{is-happened, put-after}
+
+module _ (net : List ℕ) (h p fault t : ℕ) where
+  -- what the code tests is what acknowledges
+  pub ack-is : (r : List ℕ) → r ≡ rowAt net h → (s : Shape) → s ≡ pageShape r p → (g : Regs) → g ≡ regsAt net t → (b : Bool) → b ≡ storable g s
+      → (not (eqb fault 1) && b && not (eqb fault 2)) ≡ acknowledged net h p fault t
+  ack-is r er s es g eg b eb = rw (eb, eg, es, er)
+
+  -- the answer and the network, by whether it was acknowledged
+  pub delivered : (a : Bool) → a ≡ acknowledged net h p fault t → (x : List ℕ) → x ≡ wentOut net h p fault t false
+      → (r : Regs) → r ≡ regsAt x h → (i : Regs) → i ≡ heard r false → (g : Regs) → g ≡ sent i a
+      → (y : List ℕ) → y ≡ setRow x h (putRegs (rowAt x h) g)
+      → (pick a Delivered Unacknowledged ≡ packetTurn net h p fault t .answer) × (y ≡ packetTurn net h p fault t .after)
+  unfolding packetTurn
+  delivered a ea x ex r er i ei g eg y ey =
+      (rw ea, put-after _ x ex h r er (λ (g : Regs). sent (heard g false) (acknowledged net h p fault t)) g (eg ∙ rw (ei, ea)) y ey)
+
+  module _ (n : ℕ) (en : n ≡ rows net) where
+    -- no row has the ID
+    pub no-answer : n ≤ t → (x : List ℕ) → x ≡ eachRow (λ k r. onRegs (happens (Message h false) k) r) net n
+        → (r : Regs) → r ≡ regsAt x h → (g : Regs) → g ≡ sent r false → (y : List ℕ) → y ≡ setRow x h (putRegs (rowAt x h) g)
+        → (NoAnswer ≡ enquiryTurn net h p fault t .answer) × (y ≡ enquiryTurn net h p fault t .after)
+    unfolding enquiryTurn
+    no-answer l x ex r er g eg y ey =
+        let f : ltb t (rows net) ≡ false = le-ltb t (rows net) (omega arith) in
+        (rw f, rw f (put-after _ x (is-happened net n en (Message h false) x ex) h r er (λ (g : Regs). sent g false) g eg y ey))
+
+    module _ (l : t < n) (q : Regs) (eq : q ≡ regsAt net t) (b : Bool) (eb : b ≡ receiving q) where
+      here : ltb t (rows net) ≡ true
+      here = lt-ltb t (rows net) (omega arith)
+
+      -- its RI is 1
+      pub refused : b ≡ false → (x : List ℕ) → x ≡ eachRow (λ k r. onRegs (happens (Message h false) k) r) net n
+          → (r : Regs) → r ≡ regsAt x h → (g : Regs) → g ≡ heard r false → (y : List ℕ) → y ≡ setRow x h (putRegs (rowAt x h) g)
+          → (Nak ≡ enquiryTurn net h p fault t .answer) × (y ≡ enquiryTurn net h p fault t .after)
+      unfolding enquiryTurn
+      refused f x ex r er g eg y ey =
+          let v : receiving (regsAt net t) ≡ false = sym (eb ∙ ap receiving eq) ∙ f in
+          (rw (here, v), rw (here, v) (put-after _ x (is-happened net n en (Message h false) x ex) h r er (λ (g : Regs). heard g false) g eg y ey))
+
+      -- the packet goes
+      pub answered-by : b ≡ true → (o : Outcome) (y : List ℕ) → (o ≡ packetTurn net h p fault t .answer) × (y ≡ packetTurn net h p fault t .after)
+          → (o ≡ enquiryTurn net h p fault t .answer) × (y ≡ enquiryTurn net h p fault t .after)
+      unfolding enquiryTurn
+      answered-by f o y e =
+          let v : receiving (regsAt net t) ≡ true = sym (eb ∙ ap receiving eq) ∙ f in
+          (rw (here, v) (e .0), rw (here, v) (e .1))

@@ -1,0 +1,12 @@
+-- The calls to a row, and the fresh call.
+pub mod Placed
+pub mod Settled
+pub mod Fresh
+pub mod SettledKeep
+pub mod CallsKeep
+pub mod Beside
+pub mod Writes
+pub mod Calm
+pub mod Others
+pub mod OneOrder
+pub mod Refused

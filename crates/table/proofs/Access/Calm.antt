@@ -1,0 +1,111 @@
+-- A read, a write or a reset that leaves the nodes on line leaves the token: the phase, the holder, and each node's NID.
+-- Assumes nothing.
+use mathlib.Core.Path.{_≡_, refl, _∙_, ap}
+use mathlib.Core.Bool.{Bool, true, _&&_}
+use mathlib.Core.List.{List}
+use Prim.Native.Nat.{ℕ, _+_, _≤_, _<_}
+use native.Mathlib.Omega.{arith}
+use lib.Dec.{eqb}
+use lib.ListN.{length}
+use borrow.Author.Tests.{eqb-true}
+use Rattle.card.specs.declared.regs.Regs.{Regs}
+use Rattle.card.specs.Row.{rowBytes, regsOf, onLine}
+use Rattle.card.specs.Registers.{hardwareReset}
+use Rattle.card.specs.Access.{rowAfterRead, rowAfterWrite, rowAfterReset}
+use Rattle.card.specs.Events.{burst}
+use Rattle.card.proofs.Bools.{and-left, pick-of}
+use Rattle.card.proofs.Rows.{length-put, regs-put}
+use Rattle.card.proofs.Kept.{on-line-same, kept-burst}
+use Rattle.card.proofs.Stays.{length-read, length-write}
+use Rattle.card.proofs.Rams.{ram-put}
+use Rattle.card.proofs.Touched.{reset-id, write-nid, write-id-byte, kept-row, ram-read, ram-write}
+use Rattle.table.specs.Network.{rowStart, rows, LOST, turned, rowAt, setRow, onRegs, regsAt, onLineAt, shape, SameNodes}
+use Rattle.table.specs.Calls.{placeNumber, netAfterRead, isHolder, settled, online, duplicate, netWriteNumber, netAfterWrite, netAfterReset}
+use Rattle.table.proofs.Folds.{clash}
+use Rattle.table.proofs.Rows.Networks.{length-rowAt, length-setRow, rowAt-setRow, rowAt-turned}
+use Rattle.table.proofs.Online.Nodes.{online-same}
+use Rattle.table.proofs.Shaped.Shapes.{shape-within, shape-row, shape-row-length}
+use Rattle.table.proofs.Shaped.ShapesKept.{became-put}
+use Rattle.table.proofs.Shaped.Became.{still-same}
+use Rattle.table.proofs.Shaped.Alike.{Rams}
+use Rattle.table.proofs.Access.Placed.{at-row}
+use Rattle.table.proofs.Shaped.RowsKeep.{kept-read, reset-off, regs-write}
+use Rattle.table.proofs.Access.CallsKeep.{write-placed, write-keeps, reset-keeps}
+use Rattle.table.proofs.Online.SameNodes.{Quiet, calm-still, calm-quiet, quiet-same}
+pub use Rattle.table.proofs.Online.SameNodes.{same-nodes-then, alike-nodes, Calm, calm-same}
+
+-- ---- a row that is on line as it was before the call has nothing to settle
+module _ (net : List ℕ) (k : ℕ) (h : rowStart k + rowBytes ≤ length net) where
+  bursts-online : onLineAt (turned (setRow net k (onRegs burst (rowAt net k))) LOST 0) k ≡ onLineAt net k
+  unfolding onLineAt
+  bursts-online =
+      let l = length-rowAt net k h in
+      let g = regsAt net k in
+      let r = onRegs burst (rowAt net k) in
+      ap (λ (x : List ℕ). onLine (regsOf x)) (rowAt-turned (setRow net k r) LOST 0 k ∙ rowAt-setRow net k r h (length-put (rowAt net k) _ ∙ l))
+      ∙ ap onLine (regs-put (rowAt net k) (burst g) (omega arith)) ∙ on-line-same g (burst g) (kept-burst g .id) (kept-burst g .configuration)
+
+  settled-none : (was : Bool) → onLineAt (settled net k was) k ≡ was → settled net k was ≡ net
+  unfolding settled
+  settled-none was =
+      let P : List ℕ → Type 0 = λ x. onLineAt x k ≡ was → x ≡ net in
+      pick-of P (onLineAt net k) (λ t. pick-of P was (λ _ _. refl) (λ u o. absurd (clash (bursts-online ∙ t) (o ∙ u))))
+      (λ t. pick-of P (was && isHolder net k)
+      (λ u o. absurd (clash (o ∙ and-left was (isHolder net k) u) (online-same net (turned net LOST 0) k (rowAt-turned net LOST 0 k) ∙ t))) (λ _ _. refl))
+
+module _ (net : List ℕ) (s : shape net ≡ true) (b : Rams net) (k : ℕ) where
+  module _ (l : k < rows net) (r : List ℕ) (e : length r ≡ rowBytes) (q : Quiet (rowAt net k) r) where
+    calm-settled : shape (settled (setRow net k r) k (onLineAt net k)) ≡ true → SameNodes net (settled (setRow net k r) k (onLineAt net k))
+        → Calm net (settled (setRow net k r) k (onLineAt net k))
+    calm-settled f n =
+        let h = shape-within net s k l in
+        let same = settled-none (setRow net k r) k (omega (arith, length-setRow net k r h e)) (onLineAt net k) (n .online k l) in
+        calm-quiet b (rw same (became-put net k r s l e q (λ j _. quiet-same (rowAt net j)))) f n
+
+  -- ---- the calls
+  pub calm-read : (g : ℕ) → Calm net (netAfterRead net k g)
+  unfolding netAfterRead
+  calm-read g =
+      pick-of (Calm net) (eqb (placeNumber net k) 0)
+      (λ z. let l = at-row net k (placeNumber net k) refl (eqb-true _ _ z) in
+      let r = rowAt net k in
+      let w = shape-row-length net s k l in
+      calm-still net s b (setRow net k (rowAfterRead r g))
+      (became-put net k (rowAfterRead r g) s l (length-read r w g)
+      (record { moved = record { kept = kept-read r w g (shape-row net s k l); ram = λ _ m. ram-read r m g }; nid = kept-row r w g .nid })
+      (λ j lj. still-same (rowAt net j) (shape-row net s j lj))))
+      (λ _. calm-same net s b)
+
+  pub calm-write : (g v : ℕ) → v < 256 → SameNodes net (netAfterWrite net k g v) → Calm net (netAfterWrite net k g v)
+  unfolding netAfterWrite
+  calm-write g v h =
+      let r = rowAt net k in
+      let o = online net k g in
+      let d = duplicate net k g v in
+      pick-of (λ (x : List ℕ). shape x ≡ true → SameNodes net x → Calm net x) (eqb (netWriteNumber net k g v) 0)
+      (λ z. let p = write-placed net s k g v (eqb-true _ _ z) in
+      let l = at-row net k (placeNumber net k) refl (p .0) in
+      let w = shape-row-length net s k l in
+      let e = regs-write r w g v o d (p .1) in
+      calm-settled l (rowAfterWrite r g v o d) (length-write r w g v o d)
+      (record {
+        bytes = λ m. (ram-write r (m .0) g v o d h, rw e (write-id-byte (regsOf r) g v (m .1) h));
+        nid = λ _. ap (λ (x : Regs). x .nid) e ∙ write-nid (regsOf r) g v;
+      }))
+      (λ _ _ _. calm-same net s b)
+      (write-keeps net s k g v)
+
+  pub calm-reset : SameNodes net (netAfterReset net k) → Calm net (netAfterReset net k)
+  unfolding netAfterReset
+  calm-reset =
+      let r = rowAt net k in
+      pick-of (λ (x : List ℕ). shape x ≡ true → SameNodes net x → Calm net x) (eqb (placeNumber net k) 0)
+      (λ z. let l = at-row net k (placeNumber net k) refl (eqb-true _ _ z) in
+      let w = shape-row-length net s k l in
+      calm-settled l (rowAfterReset r) (length-put r hardwareReset ∙ w)
+      (record {
+        bytes = λ m. (ram-put r (m .0) hardwareReset, rw (regs-put r hardwareReset (omega arith)) reset-id);
+        nid = λ o. absurd (clash o (reset-off r w));
+      }))
+      (λ _ _ _. calm-same net s b)
+      (reset-keeps net s k)

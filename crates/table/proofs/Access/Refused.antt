@@ -1,0 +1,53 @@
+-- A refused call leaves the network as it was, and gives nothing beside its number.
+-- Assumes nothing.
+use mathlib.Core.Path.{_≡_, refl, sym, ap, _∙_}
+use mathlib.Core.Bool.{Bool, true, false}
+use mathlib.Core.List.{List, []}
+use mathlib.Core.Logic.{⊎-elim}
+use Prim.Native.Nat.{ℕ}
+use lib.Dec.{eqb}
+use borrow.Author.Tests.{ne-eqb}
+use Rattle.card.specs.Packets.{dataNumber}
+use Rattle.card.specs.Access.{reading, rowAfterRead}
+use Rattle.card.proofs.Bools.{cases}
+use Rattle.card.proofs.Refused as card
+use Rattle.table.specs.Network.{rowAt, setRow}
+use Rattle.table.specs.Calls.{placeNumber, netReading, netAfterRead, netWriteNumber, netAfterWrite, netAfterReset, timerNumber, netAfterTimer, netInterrupt, netData, netDataNumber, freshNumber, netAfterFresh}
+use Rattle.table.proofs.Rows.Networks.{setRow-rowAt}
+
+module _ (net : List ℕ) (k : ℕ) where
+  pub read-refused : (g : ℕ) → (netReading net k g .number ≡ 0 → ⊥) → (netAfterRead net k g ≡ net) × (netReading net k g .value ≡ 0)
+  unfolding netReading netAfterRead
+  read-refused g n =
+      ⊎-elim
+      (λ (t : eqb (placeNumber net k) 0 ≡ true). let d = card.read-refused (rowAt net k) g (λ z. n (rw t z)) in
+      rw t (ap (setRow net k) (d .0) ∙ setRow-rowAt net k, d .1))
+      (λ (t : eqb (placeNumber net k) 0 ≡ false). (rw t, rw t)) (cases (eqb (placeNumber net k) 0))
+
+  pub write-refused : (g v : ℕ) → (netWriteNumber net k g v ≡ 0 → ⊥) → netAfterWrite net k g v ≡ net
+  unfolding netAfterWrite
+  write-refused g v n = rw (ne-eqb _ _ n)
+
+  pub reset-refused : (placeNumber net k ≡ 0 → ⊥) → netAfterReset net k ≡ net
+  unfolding netAfterReset
+  reset-refused n = rw (ne-eqb _ _ n)
+
+  pub timer-refused : (timerNumber net k ≡ 0 → ⊥) → netAfterTimer net k ≡ net
+  unfolding netAfterTimer
+  timer-refused n = rw (ne-eqb _ _ n)
+
+  pub interrupt-refused : (netInterrupt net k .number ≡ 0 → ⊥) → netInterrupt net k .active ≡ false
+  unfolding netInterrupt
+  interrupt-refused n =
+      ⊎-elim (λ (t : eqb (placeNumber net k) 0 ≡ true). absurd (n (rw t))) (λ (t : eqb (placeNumber net k) 0 ≡ false). rw t)
+      (cases (eqb (placeNumber net k) 0))
+
+  pub data-refused : (p : ℕ) → (netDataNumber net k p ≡ 0 → ⊥) → netData net k p ≡ []
+  unfolding netData netDataNumber
+  data-refused p n =
+      ⊎-elim (λ (t : eqb (placeNumber net k) 0 ≡ true). rw t (card.data-refused (rowAt net k) p (λ z. n (rw t z))))
+      (λ (t : eqb (placeNumber net k) 0 ≡ false). rw t) (cases (eqb (placeNumber net k) 0))
+
+  pub fresh-refused : (freshNumber net k ≡ 0 → ⊥) → netAfterFresh net k ≡ net
+  unfolding netAfterFresh
+  fresh-refused n = rw (ne-eqb _ _ n)

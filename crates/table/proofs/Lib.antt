@@ -1,0 +1,5 @@
+pub mod Folds
+pub mod Rows
+pub mod Online
+pub mod Shaped
+pub mod Access

@@ -1,0 +1,4 @@
+-- The rows on line, found by their IDs.
+pub mod Nodes
+pub mod Seen
+pub mod SameNodes

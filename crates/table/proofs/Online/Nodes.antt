@@ -1,0 +1,97 @@
+-- The rows on line: what the code reads of a row, the search for an ID, and the highest ID, as loops go through them.
+-- Assumes nothing.
+use mathlib.Core.Path.{_≡_, refl, _∙_, ap}
+use mathlib.Core.Bool.{Bool, true, false, not, _&&_}
+use mathlib.Core.List.{List}
+use Prim.Native.Nat.{ℕ, _+_, _≤_, _<_}
+use native.Mathlib.Numerals.{add-one}
+use lib.Dec.{eqb, ltb}
+use borrow.Author.Tests.{eqb-true, eqb-false, eq-eqb, ne-eqb, not-true}
+use Rattle.card.specs.declared.regs.Regs.{Regs}
+use Rattle.card.specs.Words.{pick}
+use Rattle.card.specs.Row.{onLine}
+use Rattle.card.proofs.Bools.{and-left, and-right}
+use Rattle.card.proofs.Kept.{on-line-id}
+use Rattle.table.specs.Folds.{seek}
+use Rattle.table.specs.Network.{rowAt, regsAt, onLineAt, isNode, nodeOf, topId}
+use Rattle.table.proofs.Folds.{seek-at-most, seek-found, seek-least}
+
+and-true : (b : Bool) → (b && true) ≡ b
+and-true true = refl
+and-true false = refl
+
+-- ---- the highest ID
+pub topId-none : (net : List ℕ) → topId net 0 ≡ 0
+unfolding topId
+topId-none net = refl
+
+pub topId-more : (net : List ℕ) (k : ℕ)
+    → topId net (k + 1) ≡ pick (onLineAt net k && ltb (topId net k) (regsAt net k .id)) (regsAt net k .id) (topId net k)
+unfolding topId
+topId-more net k = rw add-one
+
+-- ---- what the code reads of a row
+module _ (net : List ℕ) (k : ℕ) (g : Regs) (b : Bool) (p : g ≡ regsAt net k) (q : b ≡ onLine g) where
+  pub online-is : b ≡ onLineAt net k
+  unfolding onLineAt
+  online-is = q ∙ ap onLine p
+
+  pub node-is : (i : ℕ) → (b && eqb (g .id) i) ≡ isNode net i k
+  unfolding isNode
+  node-is i = rw (online-is, p)
+
+  -- a turn of the loop that takes the highest ID
+  pub topId-step : (top : ℕ) → top ≡ topId net k → pick (b && ltb top (g .id)) (g .id) top ≡ topId net (k + 1)
+  topId-step top e = rw (topId-more, online-is, p, e)
+
+-- row k is on line with the ID i, and is not row x
+abbrev pub other : List ℕ → ℕ → ℕ → ℕ → Bool
+other net i x k = isNode net i k && not (eqb k x)
+
+-- ---- a node: an on-line row and its ID
+pub node-of : (net : List ℕ) (k i : ℕ) → onLineAt net k ≡ true → regsAt net k .id ≡ i → isNode net i k ≡ true
+unfolding isNode
+node-of net k i p e = rw (p, eq-eqb _ _ e)
+
+module _ (net : List ℕ) (k i : ℕ) (t : isNode net i k ≡ true) where
+  pub node-online : onLineAt net k ≡ true
+  unfolding isNode
+  node-online = and-left (onLineAt net k) (eqb (regsAt net k .id) i) t
+
+  pub node-id : regsAt net k .id ≡ i
+  unfolding isNode
+  node-id = eqb-true _ _ (and-right (onLineAt net k) (eqb (regsAt net k .id) i) t)
+
+-- the ID of a row on line is not 0
+pub online-id : (net : List ℕ) (k : ℕ) → onLineAt net k ≡ true → regsAt net k .id ≡ 0 → ⊥
+unfolding onLineAt
+online-id net k o e = on-line-id (regsAt net k) o e
+
+-- what the search for an ID finds, and what it says where it finds nothing
+module _ (net : List ℕ) (i x n : ℕ) where
+  pub nodeOf-found : nodeOf net i x n < n → (isNode net i (nodeOf net i x n) ≡ true) × (nodeOf net i x n ≡ x → ⊥)
+  unfolding nodeOf
+  nodeOf-found h =
+      let t = seek-found (other net i x) n h in
+      let k = seek (other net i x) n in
+      (and-left (isNode net i k) (not (eqb k x)) t, eqb-false k x (not-true (eqb k x) (and-right (isNode net i k) (not (eqb k x)) t)))
+
+  pub nodeOf-most : nodeOf net i x n ≤ n
+  unfolding nodeOf
+  nodeOf-most = seek-at-most (other net i x) n
+
+  pub nodeOf-fails : nodeOf net i x n ≡ n → (j : ℕ) → j < n → (j ≡ x → ⊥) → isNode net i j ≡ false
+  unfolding nodeOf
+  nodeOf-fails e j l ne =
+      let t = seek-least (other net i x) n j (rw e l) in
+      rw (ne-eqb j x ne, and-true) at t
+
+-- ---- a row that is the same in two networks
+module _ (net new : List ℕ) (k : ℕ) (e : rowAt new k ≡ rowAt net k) where
+  pub online-same : onLineAt new k ≡ onLineAt net k
+  unfolding onLineAt
+  online-same = rw e
+
+  pub node-same : (i : ℕ) → isNode new i k ≡ isNode net i k
+  unfolding isNode
+  node-same i = rw (online-same, e)

@@ -1,0 +1,73 @@
+-- Two networks with the same nodes on line, and a network that became another with the token where it was.
+-- Assumes nothing.
+use mathlib.Core.Path.{_≡_, refl, _∙_}
+use mathlib.Core.Bool.{true}
+use mathlib.Core.List.{List}
+use Prim.Native.Nat.{ℕ, _<_}
+use native.Mathlib.Omega.{arith}
+use Rattle.card.specs.Row.{regsOf, onLine}
+use Rattle.card.proofs.PacketLaws.{Ram}
+use Rattle.table.specs.Network.{rows, phase, holder, regsAt, onLineAt, shape, SameNodes}
+use Rattle.table.proofs.Shaped.ShapesKept.{Became}
+use Rattle.table.proofs.Shaped.Became.{Still, became-rows, became-phase, became-holder, still-moved}
+use Rattle.table.proofs.Shaped.Alike.{Rams, Alike, alike-moved}
+
+pub same-nodes-then : {a b c : List ℕ} → SameNodes a b → SameNodes b c → SameNodes a c
+same-nodes-then p q = record {
+  count = q .count ∙ p .count;
+  online = λ k l. q .online k (omega (arith, p .count)) ∙ p .online k l;
+  id = λ k l o. q .id k (omega (arith, p .count)) (p .online k l ∙ o) ∙ p .id k l o;
+}
+
+pub alike-nodes : {net new : List ℕ} → Alike net new → SameNodes net new
+alike-nodes a = record { count = a .count; online = a .online; id = λ k l _. a .id k l }
+
+-- ---- a call that left the token where it was: well formed, the same phase and holder, the same nodes on line, each with its NID
+pub record Calm (net new : List ℕ) : Type 0 where
+  pub fits : shape new ≡ true
+  pub rams : Rams new
+  pub nodes : SameNodes net new
+  pub phase-same : phase new ≡ phase net
+  pub holder-same : holder new ≡ holder net
+  pub nid : (k : ℕ) → k < rows net → onLineAt net k ≡ true → regsAt new k .nid ≡ regsAt net k .nid
+
+pub calm-same : (net : List ℕ) → shape net ≡ true → Rams net → Calm net net
+calm-same net s b = record {
+  fits = s;
+  rams = b;
+  nodes = record { count = refl; online = λ k l. refl; id = λ k l o. refl };
+  phase-same = refl;
+  holder-same = refl;
+  nid = λ k l o. refl;
+}
+
+-- rows with the IDs and the NIDs that they had
+pub calm-still : (net : List ℕ) → shape net ≡ true → Rams net → (new : List ℕ) → Became Still net new → Calm net new
+calm-still net s b new c =
+    let a = alike-moved net s b new (still-moved c) in record {
+      fits = a .fits;
+      rams = a .rams;
+      nodes = alike-nodes a;
+      phase-same = became-phase c;
+      holder-same = became-holder c;
+      nid = λ k l _. c .row k l .nid;
+    }
+
+-- ---- the row s in the place of the row r: with a RAM and an ID of bytes where r had them, and with r's NID if it is on line
+pub record Quiet (r s : List ℕ) : Type 0 where
+  pub bytes : Ram r × (regsOf r .id < 256) → Ram s × (regsOf s .id < 256)
+  pub nid : onLine (regsOf s) ≡ true → regsOf s .nid ≡ regsOf r .nid
+
+pub calm-quiet : {net new : List ℕ} → Rams net → Became Quiet net new → shape new ≡ true → SameNodes net new → Calm net new
+unfolding onLineAt
+calm-quiet {net} {new} b c f n = record {
+  fits = f;
+  rams = λ k l. let j : k < rows net = omega (arith, became-rows c) in c .row k j .bytes (b k j);
+  nodes = n;
+  phase-same = became-phase c;
+  holder-same = became-holder c;
+  nid = λ k l o. c .row k l .nid (n .online k l ∙ o);
+}
+
+pub quiet-same : (r : List ℕ) → Quiet r r
+quiet-same r = record { bytes = λ b. b; nid = λ o. refl }

@@ -1,0 +1,52 @@
+-- What the calls leave of a well formed row: a read and a burst keep it, and a write that is not refused gives it the registers that it says.
+-- Assumes nothing.
+use mathlib.Core.Path.{_≡_, refl, sym, _∙_, ap}
+use mathlib.Core.Bool.{Bool, true, false}
+use mathlib.Core.List.{List}
+use Prim.Native.Nat.{ℕ}
+use native.Mathlib.Omega.{arith}
+use lib.ListN.{length}
+use Rattle.card.specs.declared.regs.Regs.{Regs}
+use Rattle.card.specs.Row.{rowBytes, regsOf, putRegs, onLine, wellFormed}
+use Rattle.card.specs.Registers.{pointer, afterWrite, hardwareReset}
+use Rattle.card.specs.Refusals.{writeNumber}
+use Rattle.card.specs.Access.{pointed, rowAfterRead, ramWritten, rowAfterWrite, rowAfterReset}
+use Rattle.card.specs.Events.{burst}
+use Rattle.card.proofs.Rows.{regs-put, well-fit}
+use Rattle.card.proofs.Fits.{fit-rules}
+use Rattle.card.proofs.LineKeeps.{keep-burst}
+use Rattle.card.proofs.Kept as card
+use Rattle.card.proofs.Accesses.{write-done, length-ram}
+use Rattle.card.proofs.Stays.{well-regs, well-read}
+use Rattle.card.proofs.Touched.{kept-row}
+use Rattle.table.specs.Network.{onRegs}
+use Rattle.table.proofs.Shaped.ShapesKept.{Kept}
+
+module _ (r : List ℕ) (l : length r ≡ rowBytes) where
+  -- other registers of the same card
+  pub kept-put : (h : Regs) → wellFormed (putRegs r h) ≡ true → card.Kept (regsOf r) h → Kept r (putRegs r h)
+  kept-put h w k =
+      let e = regs-put r h (omega arith) in record {
+        well = w;
+        id = ap (λ (g : Regs). g .id) e ∙ k .id;
+        online = ap onLine e ∙ card.on-line-same (regsOf r) h (k .id) (k .configuration);
+      }
+
+  pub kept-burst : wellFormed r ≡ true → Kept r (onRegs burst r)
+  kept-burst w =
+      kept-put (burst (regsOf r)) (well-regs r l w (burst (regsOf r)) (keep-burst (regsOf r) (fit-rules (regsOf r) (well-fit r w)))) (card.kept-burst (regsOf r))
+
+  pub kept-read : (k : ℕ) → wellFormed r ≡ true → Kept r (rowAfterRead r k)
+  kept-read k w =
+      let c = kept-row r l k in
+      record { well = well-read r l w k; id = c .id; online = card.on-line-same (regsOf r) (regsOf (rowAfterRead r k)) (c .id) (c .configuration) }
+
+  pub reset-off : onLine (regsOf (rowAfterReset r)) ≡ false
+  reset-off = ap onLine (regs-put r hardwareReset (omega arith)) ∙ card.reset-off
+
+  pub regs-write : (k v : ℕ) (o d : Bool) → writeNumber (regsOf r) k v o d ≡ 0 → regsOf (rowAfterWrite r k v o d) ≡ afterWrite (regsOf r) k v
+  regs-write k v o d z =
+      let m = ramWritten r k (pointed r) v in
+      let e : putRegs m (afterWrite (regsOf r) k v) ≡ rowAfterWrite r k v o d
+      = write-done r k v (writeNumber (regsOf r) k v o d) o d (regsOf r) refl refl z (pointer (regsOf r)) refl m refl (afterWrite (regsOf r) k v) refl _ refl .1 in
+      ap regsOf (sym e) ∙ regs-put m (afterWrite (regsOf r) k v) (omega (arith, length-ram r k (pointed r) v))

@@ -1,0 +1,243 @@
+// Document 01, "Registers" and "Packets", for a row of a network, and the fresh call. Each call tests SHAPE once.
+ghost use mathlib.Core.Path.{_≡_};
+ghost use mathlib.Core.Bool.{true};
+ghost use mathlib.Core.List.{_∷_, _++_};
+ghost use Prim.Native.Nat.{_+_, _≤_, _<_};
+ghost use lib.ListN.{length, drop, replicate};
+ghost use Rattle.card.specs.Row.{rowBytes};
+ghost use Rattle.card.specs.Access.{freshRow};
+ghost use Rattle.table.specs.Network.{headerBytes, mark, rowStart, rows, eachRow, shape};
+ghost use Rattle.table.specs.Calls.{placeNumber, netReading, netAfterRead, settled, netWriteNumber, netAfterWrite, netAfterReset, timerNumber, netAfterTimer, netInterrupt, netData, netDataNumber, freshNumber, netAfterFresh};
+use crate::network::HEADER;
+use crate::network::LOST;
+use crate::network::MARK;
+use crate::network::ROWS;
+use crate::network::node_of;
+use crate::network::regs_at;
+use crate::network::row_at;
+use crate::network::rows;
+use crate::network::shape;
+use crate::network::turn;
+use crate::network::wide;
+use card::numbers::Cases;
+use card::row::ROW;
+use card::row::Reading;
+
+// Whether a card's interrupt is active; false beside a refusal's number.
+pub struct Interrupting {
+    pub number: u8,
+    pub active: bool,
+}
+
+// SHAPE and ROW: the cases of every call to a row.
+pub fn place_number(net: &[u8], row: usize) -> u8
+    ensures { λ r. ⌜ r ≡ placeNumber (now (net .entry)) row ⌝ }
+{
+    let mut cases = Cases::none();
+    if !shape(net) {
+        cases.shape = true;
+        return cases.number();
+    }
+    cases.row = rows(net) <= row;
+    cases.number()
+}
+
+// A register of a row is read.
+pub fn read(net: &mut [u8], row: usize, register: usize) -> Reading
+    ensures answer { λ r. ⌜ r ≡ netReading (now (net .entry)) row register ⌝ }
+    ensures bytes { λ _. ⌜ now (net .exit) ≡ netAfterRead (now (net .entry)) row register ⌝ }
+{
+    let number = place_number(net, row);
+    if number != 0 {
+        return Reading { number, value: 0 };
+    }
+    let a = HEADER + ROW * row;
+    card::row::read(&mut net[a..a + ROW], register)
+}
+
+// Row k, as a call has left it, was on line before the call or was not: the row that comes on line bursts, and the
+// line is lost with it, or with a holder that goes off line.
+fn settle(net: &mut [u8], k: usize, was: bool)
+    requires { ⌜ rowStart k + rowBytes ≤ length (now net) ⌝ }
+    ensures { λ _. ⌜ now (net .exit) ≡ settled (now (net .entry)) k was ⌝ }
+{
+    let g = regs_at(net, k);
+    if g.on_line() {
+        if was {
+            return;
+        }
+        let a = HEADER + ROW * k;
+        card::row::store(&mut net[a..a + ROW], g.burst());
+        turn(net, LOST, 0);
+        return;
+    }
+    if was & (net[4] != LOST) & (wide(net[5]) == k) {
+        turn(net, LOST, 0);
+    }
+}
+
+// A register of a row is written, in a network that SHAPE does not refuse. It serves whoever has tested SHAPE already.
+pub fn write_on(net: &mut [u8], row: usize, register: usize, value: u8) -> u8
+    requires { ⌜ shape (now net) ≡ true ⌝ }
+    requires { ⌜ row < rows (now net) ⌝ }
+    ensures number { λ r. ⌜ r ≡ netWriteNumber (now (net .entry)) row register value ⌝ }
+    ensures bytes { λ _. ⌜ now (net .exit) ≡ netAfterWrite (now (net .entry)) row register value ⌝ }
+{
+    let g = regs_at(net, row);
+    let was = g.on_line();
+    let after = g.after_write(register, value);
+    let n = rows(net);
+    let duplicate = after.on_line() & (node_of(net, after.id, row, n) < n);
+    let a = HEADER + ROW * row;
+    let number = card::row::write(
+        &mut net[a..a + ROW],
+        register,
+        value,
+        was & g.writes_id(register),
+        duplicate,
+    );
+    if number != 0 {
+        return number;
+    }
+    settle(net, row, was);
+    0
+}
+
+// A register of a row is written.
+pub fn write(net: &mut [u8], row: usize, register: usize, value: u8) -> u8
+    ensures number { λ r. ⌜ r ≡ netWriteNumber (now (net .entry)) row register value ⌝ }
+    ensures bytes { λ _. ⌜ now (net .exit) ≡ netAfterWrite (now (net .entry)) row register value ⌝ }
+{
+    let number = place_number(net, row);
+    if number != 0 {
+        return number;
+    }
+    write_on(net, row, register, value)
+}
+
+// A row's hardware reset.
+pub fn reset(net: &mut [u8], row: usize) -> u8
+    ensures number { λ r. ⌜ r ≡ placeNumber (now (net .entry)) row ⌝ }
+    ensures bytes { λ _. ⌜ now (net .exit) ≡ netAfterReset (now (net .entry)) row ⌝ }
+{
+    let number = place_number(net, row);
+    if number != 0 {
+        return number;
+    }
+    let was = regs_at(net, row).on_line();
+    let a = HEADER + ROW * row;
+    card::row::hardware_reset(&mut net[a..a + ROW]);
+    settle(net, row, was);
+    0
+}
+
+// A row's lost-token timer expires.
+pub fn timer(net: &mut [u8], row: usize) -> u8
+    ensures number { λ r. ⌜ r ≡ timerNumber (now (net .entry)) row ⌝ }
+    ensures bytes { λ _. ⌜ now (net .exit) ≡ netAfterTimer (now (net .entry)) row ⌝ }
+{
+    let number = place_number(net, row);
+    if number != 0 {
+        return number;
+    }
+    let g = regs_at(net, row);
+    let mut cases = Cases::none();
+    cases.notready = !g.on_line();
+    let number = cases.number();
+    if number != 0 {
+        return number;
+    }
+    let a = HEADER + ROW * row;
+    card::row::store(&mut net[a..a + ROW], g.burst());
+    turn(net, LOST, 0);
+    0
+}
+
+pub fn interrupt(net: &[u8], row: usize) -> Interrupting
+    ensures { λ r. ⌜ r ≡ netInterrupt (now (net .entry)) row ⌝ }
+{
+    let number = place_number(net, row);
+    if number != 0 {
+        return Interrupting {
+            number,
+            active: false,
+        };
+    }
+    Interrupting {
+        number: 0,
+        active: regs_at(net, row).interrupt(),
+    }
+}
+
+// The data of a page of a row: that stretch of the network itself.
+pub fn page_data(net: &[u8], row: usize, page: usize) -> &[u8]
+    ensures { λ r. ⌜ now r ≡ netData (now (net .entry)) row page ⌝ }
+{
+    if place_number(net, row) != 0 {
+        return &net[0..0];
+    }
+    card::packets::page_data(row_at(net, row), page)
+}
+
+// The number that belongs to the reader's answer.
+pub fn data_number(net: &[u8], row: usize, page: usize) -> u8
+    ensures { λ r. ⌜ r ≡ netDataNumber (now (net .entry)) row page ⌝ }
+{
+    let number = place_number(net, row);
+    if number != 0 {
+        return number;
+    }
+    card::packets::data_number(row_at(net, row), page)
+}
+
+// A network of n rows is made in the bytes lent, whatever they were.
+pub fn fresh(net: &mut [u8], n: usize) -> u8
+    ensures number { λ r. ⌜ r ≡ freshNumber (now (net .entry)) n ⌝ }
+    ensures bytes { λ _. ⌜ now (net .exit) ≡ netAfterFresh (now (net .entry)) n ⌝ }
+{
+    let number = fresh_number(net, n);
+    if number != 0 {
+        return number;
+    }
+    write_header(net, n);
+    create_rows(net, n);
+    0
+}
+
+// VALUE and ROOM.
+fn fresh_number(net: &[u8], n: usize) -> u8
+    ensures { λ r. ⌜ r ≡ freshNumber (now (net .entry)) n ⌝ }
+{
+    let mut cases = Cases::none();
+    if (n == 0) | (ROWS < n) {
+        cases.value = true;
+        return cases.number();
+    }
+    cases.room = net.len() != HEADER + ROW * n;
+    cases.number()
+}
+
+// The header of a network of n rows in LOST.
+fn write_header(net: &mut [u8], n: usize)
+    requires { ⌜ headerBytes ≤ length (now net) ⌝ }
+    requires { ⌜ n < 256 ⌝ }
+    ensures { λ _. ⌜ now (net .exit) ≡ mark ++ (1 ∷ n ∷ replicate 12 0) ++ drop headerBytes (now (net .entry)) ⌝ }
+{
+    card::row::fill_zero(&mut net[0..HEADER]);
+    net[0] = MARK[0];
+    net[1] = MARK[1];
+    net[2] = 1;
+    net[3] = n as u8;
+}
+
+fn create_rows(net: &mut [u8], n: usize)
+    requires { ⌜ rowStart n ≤ length (now net) ⌝ }
+    ensures { λ _. ⌜ now (net .exit) ≡ eachRow (λ k r. freshRow) (now (net .entry)) n ⌝ }
+{
+    let mut k = 0;
+    while k < n {
+        let a = HEADER + ROW * k;
+        card::row::create(&mut net[a..a + ROW]);
+        k += 1;
+    }
+}

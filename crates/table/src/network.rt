@@ -1,0 +1,195 @@
+// Document 01, "The saved network": the header, a row's part, and the test SHAPE.
+ghost use mathlib.Core.Path.{_≡_};
+ghost use Prim.Native.Nat.{_+_, _≤_, _<_};
+ghost use lib.ListN.{length};
+ghost use Rattle.card.specs.Row.{rowBytes, putRegs};
+ghost use Rattle.table.specs.Network.{headerBytes, rowStart, rows, phase, holder, turned, rowAt, setRow, regsAt, nodeOf, topId, headerFits, rowsFit, idsDiffer, holderFits, shape};
+use card::regs::Regs;
+use card::row::ROW;
+
+pub const HEADER: usize = 16;
+
+pub const ROWS: usize = 60;
+
+pub const LOST: u8 = 0;
+
+pub const PASS: u8 = 1;
+
+pub const TAKEN: u8 = 2;
+
+// The fixed bytes that a network begins with.
+pub const MARK: [u8; 2] = *b"\x41\x4e";
+
+pub fn wide(x: u8) -> usize
+    ensures { λ r. ⌜ (r ≡ x) × (r < 256) ⌝ }
+{
+    x as usize
+}
+
+// The number of rows that the header names.
+pub fn rows(net: &[u8]) -> usize
+    requires { ⌜ headerBytes ≤ length (now net) ⌝ }
+    ensures { λ r. ⌜ (r ≡ rows (now (net .entry))) × (r < 256) ⌝ }
+{
+    wide(net[3])
+}
+
+pub fn phase(net: &[u8]) -> u8
+    requires { ⌜ headerBytes ≤ length (now net) ⌝ }
+    ensures { λ r. ⌜ r ≡ phase (now (net .entry)) ⌝ }
+{
+    net[4]
+}
+
+// The row that holds; 0 in LOST.
+pub fn holder(net: &[u8]) -> usize
+    requires { ⌜ headerBytes ≤ length (now net) ⌝ }
+    ensures { λ r. ⌜ (r ≡ holder (now (net .entry))) × (r < 256) ⌝ }
+{
+    wide(net[5])
+}
+
+// A row's part of the network.
+pub fn row_at(net: &[u8], k: usize) -> &[u8]
+    requires { ⌜ rowStart k + rowBytes ≤ length (now net) ⌝ }
+    ensures { λ r. ⌜ now r ≡ rowAt (now (net .entry)) k ⌝ }
+    ensures { λ r. ⌜ length (now r) ≡ rowBytes ⌝ }
+{
+    let a = HEADER + ROW * k;
+    &net[a..a + ROW]
+}
+
+pub fn regs_at(net: &[u8], k: usize) -> Regs
+    requires { ⌜ rowStart k + rowBytes ≤ length (now net) ⌝ }
+    ensures { λ r. ⌜ r ≡ regsAt (now (net .entry)) k ⌝ }
+{
+    card::row::load(row_at(net, k))
+}
+
+// One row is given other registers.
+pub fn put_regs(net: &mut [u8], k: usize, g: Regs)
+    requires { ⌜ rowStart k + rowBytes ≤ length (now net) ⌝ }
+    ensures { λ _. ⌜ now (net .exit) ≡ setRow (now (net .entry)) k (putRegs (rowAt (now (net .entry)) k) g) ⌝ }
+{
+    let a = HEADER + ROW * k;
+    card::row::store(&mut net[a..a + ROW], g);
+}
+
+// The phase and the holder are written.
+pub fn turn(net: &mut [u8], phase: u8, holder: u8)
+    requires { ⌜ headerBytes ≤ length (now net) ⌝ }
+    ensures { λ _. ⌜ now (net .exit) ≡ turned (now (net .entry)) phase holder ⌝ }
+{
+    net[4] = phase;
+    net[5] = holder;
+}
+
+// The on-line row with this ID, other than row `except`, among the first n; n where there is none.
+pub fn node_of(net: &[u8], id: u8, except: usize, n: usize) -> usize
+    requires { ⌜ rowStart n ≤ length (now net) ⌝ }
+    ensures { λ r. ⌜ r ≡ nodeOf (now (net .entry)) id except n ⌝ }
+{
+    let mut k = 0;
+    while k < n {
+        let g = regs_at(net, k);
+        if g.on_line() & (g.id == id) & (k != except) {
+            return k;
+        }
+        k += 1;
+    }
+    n
+}
+
+// The highest ID on line; 0 where nobody is.
+pub fn top_id(net: &[u8], n: usize) -> u8
+    requires { ⌜ rowStart n ≤ length (now net) ⌝ }
+    ensures { λ r. ⌜ r ≡ topId (now (net .entry)) n ⌝ }
+{
+    let mut top = 0;
+    let mut k = 0;
+    while k < n {
+        let g = regs_at(net, k);
+        top = card::numbers::choose(g.on_line() & (top < g.id), g.id, top);
+        k += 1;
+    }
+    top
+}
+
+fn header_fits(net: &[u8]) -> bool
+    requires { ⌜ headerBytes ≤ length (now net) ⌝ }
+    ensures { λ r. ⌜ r ≡ headerFits (now (net .entry)) ⌝ }
+{
+    let n = wide(net[3]);
+    (net[0] == MARK[0])
+        & (net[1] == MARK[1])
+        & (net[2] == 1)
+        & (0 < n)
+        & (n <= ROWS)
+        & (net[4] < 3)
+        & card::row::all_zero(&net[6..HEADER])
+        & (net.len() == HEADER + ROW * n)
+}
+
+fn rows_fit(net: &[u8], n: usize) -> bool
+    requires { ⌜ rowStart n ≤ length (now net) ⌝ }
+    ensures { λ r. ⌜ r ≡ rowsFit (now (net .entry)) n ⌝ }
+{
+    let mut k = 0;
+    while k < n {
+        if !card::row::well_formed(row_at(net, k)) {
+            return false;
+        }
+        k += 1;
+    }
+    true
+}
+
+// The IDs of the rows on line differ pairwise: each is looked up in a table of those seen before it.
+fn ids_differ(net: &[u8], n: usize) -> bool
+    requires { ⌜ rowStart n ≤ length (now net) ⌝ }
+    ensures { λ r. ⌜ r ≡ idsDiffer (now (net .entry)) n ⌝ }
+{
+    let mut seen = [false; 256];
+    let mut k = 0;
+    while k < n {
+        let g = regs_at(net, k);
+        let i = g.id as usize;
+        if g.on_line() {
+            if seen[i] {
+                return false;
+            }
+            seen[i] = true;
+        }
+        k += 1;
+    }
+    true
+}
+
+fn holder_fits(net: &[u8]) -> bool
+    requires { ⌜ headerBytes ≤ length (now net) ⌝ }
+    requires { ⌜ rowStart (rows (now net)) ≤ length (now net) ⌝ }
+    ensures { λ r. ⌜ r ≡ holderFits (now (net .entry)) ⌝ }
+{
+    let h = wide(net[5]);
+    if net[4] == LOST {
+        return h == 0;
+    }
+    if wide(net[3]) <= h {
+        return false;
+    }
+    regs_at(net, h).on_line()
+}
+
+// SHAPE does not refuse the network. Any bytes of any length may be asked about.
+pub fn shape(net: &[u8]) -> bool
+    ensures { λ r. ⌜ r ≡ shape (now (net .entry)) ⌝ }
+{
+    if net.len() < HEADER {
+        return false;
+    }
+    if !header_fits(net) {
+        return false;
+    }
+    let n = wide(net[3]);
+    rows_fit(net, n) & ids_differ(net, n) & holder_fits(net)
+}
