@@ -14,7 +14,7 @@ use Rattle.line.specs.declared.step.Answer.the-variants.{Refused, Quiet,
 use Rattle.card.specs.Words.{pick, has}
 use Rattle.card.specs.Flags.{TMA, TA}
 use Rattle.card.specs.Packets.{malformed, pageShape, destination}
-use Rattle.card.specs.Events.{heard, cancelled, sent, transmitting, receiving, transmitPage, storable}
+use Rattle.card.specs.Events.{heard, cancelled, sent, enquired, transmitting, receiving, transmitPage, storable}
 use Rattle.table.specs.Network.{rows, phase, holder, TAKEN, rowAt, regsAt, nodeOf}
 use Rattle.line.specs.Traffic.{onRow, damaged, takes}
 use Rattle.line.specs.Step.{stepNumber}
@@ -75,8 +75,8 @@ abbrev pub holderAfter : Outcome → Regs → Regs
 holderAfter Nothing g = cancelled g
 holderAfter Malformed g = sent (cancelled g) false
 holderAfter Broadcast g = sent (cancelled g) false
-holderAfter NoAnswer g = sent (cancelled g) false
-holderAfter Nak g = heard (cancelled g) false
+holderAfter NoAnswer g = enquired (cancelled g) false
+holderAfter Nak g = enquired (cancelled g) true
 holderAfter Delivered g = sent (heard (cancelled g) false) true
 holderAfter Unacknowledged g = sent (heard (cancelled g) false) false
 

@@ -13,7 +13,7 @@ use Rattle.line.specs.declared.traffic.Outcome.the-variants.{Nothing, Ma
 use Rattle.card.specs.Words.{pick}
 use Rattle.card.specs.Row.{regsOf}
 use Rattle.card.specs.Packets.{malformed, pageShape, destination, packetAt, stored, stamped}
-use Rattle.card.specs.Events.{recovered, heard, answered, received, cancelled, sent, transmitting, receiving, takesBroadcasts, transmitPage, receivePage, storable}
+use Rattle.card.specs.Events.{recovered, heard, answered, received, cancelled, sent, enquired, transmitting, receiving, takesBroadcasts, transmitPage, receivePage, storable}
 use Rattle.table.specs.Network.{rows, rowAt, setRow, eachRow, onRegs, regsAt, nodeOf}
 
 -- an answer, and the network after it
@@ -82,13 +82,16 @@ packetTurn net h p fault t = record {
   after = onRow (wentOut net h p fault t false) h (λ g. sent (heard g false) (acknowledged net h p fault t));
 }
 
+-- an enquiry that no packet follows: the other rows hear it, and a NAK answered it or nobody did
+unfoldable pub asked : List ℕ → ℕ → Bool → List ℕ
+asked net h nak = onRow (happened net (Message h false)) h (λ g. enquired g nak)
+
 -- "Otherwise an enquiry: no other on-line row with that ID, NoAnswer, TA = 1; its RI = 1, NAK, TA stays 0; else the packet goes"
 unfoldable pub enquiryTurn : List ℕ → ℕ → ℕ → ℕ → ℕ → Turn Outcome
 enquiryTurn net h p fault t =
     pick (ltb t (rows net))
-    (pick (receiving (regsAt net t)) (packetTurn net h p fault t)
-    (record { answer = Nak; after = onRow (happened net (Message h false)) h (λ g. heard g false) }))
-    (record { answer = NoAnswer; after = onRow (happened net (Message h false)) h (λ g. sent g false) })
+    (pick (receiving (regsAt net t)) (packetTurn net h p fault t) (record { answer = Nak; after = asked net h true }))
+    (record { answer = NoAnswer; after = asked net h false })
 
 -- the packet of page p: "Malformed: TA = 1. DID 0, Broadcast .. Otherwise an enquiry"
 unfoldable pub tryTurn : List ℕ → ℕ → ℕ → ℕ → Turn Outcome

@@ -12,7 +12,9 @@ use card::numbers::Cases;
 use table::network::LOST;
 use table::network::PASS;
 use table::network::TAKEN;
+use table::network::holder;
 use table::network::node_of;
+use table::network::phase;
 use table::network::put_regs;
 use table::network::regs_at;
 use table::network::rows;
@@ -87,7 +89,7 @@ fn pass(net: &mut [u8], fault: usize) -> Answer
     ensures bytes { λ _. ⌜ now (net .exit) ≡ passTurn (now (net .entry)) fault .after ⌝ }
 {
     let n = rows(net);
-    let h = wide(net[5]);
+    let h = holder(net);
     if fault == 3 {
         happen(net, n, Event::Message(h, false));
         turn(net, LOST, 0);
@@ -112,16 +114,16 @@ pub fn step_on(net: &mut [u8], fault: usize) -> Answer
     ensures answer { λ r. ⌜ r ≡ stepTurn (now (net .entry)) fault .answer ⌝ }
     ensures bytes { λ _. ⌜ now (net .exit) ≡ stepTurn (now (net .entry)) fault .after ⌝ }
 {
-    let phase = net[4];
-    let h = net[5];
-    if phase == LOST {
+    let now = phase(net);
+    if now == LOST {
         return lost(net);
     }
-    if phase == PASS {
+    if now == PASS {
         return pass(net, fault);
     }
-    let outcome = taken(net, wide(h), fault);
-    turn(net, PASS, h);
+    let h = holder(net);
+    let outcome = taken(net, h, fault);
+    turn(net, PASS, h as u8);
     Answer::Held(outcome)
 }
 

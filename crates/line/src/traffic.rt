@@ -3,7 +3,7 @@ ghost use mathlib.Core.Path.{_≡_};
 ghost use mathlib.Core.Bool.{true};
 ghost use Prim.Native.Nat.{_<_};
 ghost use Rattle.table.specs.Network.{rows, shape};
-ghost use Rattle.line.specs.Traffic.{wentOut, broadcastTurn, packetTurn, enquiryTurn, tryTurn, takenTurn};
+ghost use Rattle.line.specs.Traffic.{wentOut, asked, broadcastTurn, packetTurn, enquiryTurn, tryTurn, takenTurn};
 use crate::passes::Event;
 use crate::passes::carry;
 use crate::passes::happen;
@@ -64,6 +64,18 @@ fn deliver(net: &mut [u8], h: usize, page: usize, fault: usize, t: usize) -> Out
     Outcome::Unacknowledged
 }
 
+// An enquiry of row h that no packet follows: the others hear it, and a NAK answered it or nobody did.
+fn asked(net: &mut [u8], h: usize, nak: bool)
+    requires { ⌜ shape (now net) ≡ true ⌝ }
+    requires { ⌜ h < rows (now net) ⌝ }
+    ensures { λ _. ⌜ now (net .exit) ≡ asked (now (net .entry)) h nak ⌝ }
+{
+    let n = rows(net);
+    happen(net, n, Event::Message(h, false));
+    let g = regs_at(net, h).enquired(nak);
+    put_regs(net, h, g);
+}
+
 // An enquiry goes to row t; no row has the ID where t is not below the number of rows.
 fn enquire(net: &mut [u8], h: usize, page: usize, fault: usize, t: usize) -> Outcome
     requires { ⌜ shape (now net) ≡ true ⌝ }
@@ -72,19 +84,14 @@ fn enquire(net: &mut [u8], h: usize, page: usize, fault: usize, t: usize) -> Out
     ensures answer { λ r. ⌜ r ≡ enquiryTurn (now (net .entry)) h page fault t .answer ⌝ }
     ensures bytes { λ _. ⌜ now (net .exit) ≡ enquiryTurn (now (net .entry)) h page fault t .after ⌝ }
 {
-    let n = rows(net);
-    if n <= t {
-        happen(net, n, Event::Message(h, false));
-        let g = regs_at(net, h).enquired(false);
-        put_regs(net, h, g);
+    if rows(net) <= t {
+        asked(net, h, false);
         return Outcome::NoAnswer;
     }
     if regs_at(net, t).receiving() {
         return deliver(net, h, page, fault, t);
     }
-    happen(net, n, Event::Message(h, false));
-    let g = regs_at(net, h).enquired(true);
-    put_regs(net, h, g);
+    asked(net, h, true);
     Outcome::Nak
 }
 

@@ -1,5 +1,6 @@
 -- What SHAPE says of a network, and what keeps it.
 pub mod Shapes
+pub mod Bounds
 pub mod ShapesKept
 pub mod Became
 pub mod Alike

@@ -12,13 +12,15 @@ use crate::network::HEADER;
 use crate::network::LOST;
 use crate::network::MARK;
 use crate::network::ROWS;
+use crate::network::holder;
 use crate::network::node_of;
+use crate::network::phase;
+use crate::network::put_regs;
 use crate::network::regs_at;
 use crate::network::row_at;
 use crate::network::rows;
 use crate::network::shape;
 use crate::network::turn;
-use crate::network::wide;
 use card::numbers::Cases;
 use card::row::ROW;
 use card::row::Reading;
@@ -66,12 +68,11 @@ fn settle(net: &mut [u8], k: usize, was: bool)
         if was {
             return;
         }
-        let a = HEADER + ROW * k;
-        card::row::store(&mut net[a..a + ROW], g.burst());
+        put_regs(net, k, g.burst());
         turn(net, LOST, 0);
         return;
     }
-    if was & (net[4] != LOST) & (wide(net[5]) == k) {
+    if was & (phase(net) != LOST) & (holder(net) == k) {
         turn(net, LOST, 0);
     }
 }

@@ -119,13 +119,13 @@ fn header_fits(net: &[u8]) -> bool
     requires { ⌜ headerBytes ≤ length (now net) ⌝ }
     ensures { λ r. ⌜ r ≡ headerFits (now (net .entry)) ⌝ }
 {
-    let n = wide(net[3]);
+    let n = rows(net);
     (net[0] == MARK[0])
         & (net[1] == MARK[1])
         & (net[2] == 1)
         & (0 < n)
         & (n <= ROWS)
-        & (net[4] < 3)
+        & (phase(net) < 3)
         & card::row::all_zero(&net[6..HEADER])
         & (net.len() == HEADER + ROW * n)
 }
@@ -170,11 +170,11 @@ fn holder_fits(net: &[u8]) -> bool
     requires { ⌜ rowStart (rows (now net)) ≤ length (now net) ⌝ }
     ensures { λ r. ⌜ r ≡ holderFits (now (net .entry)) ⌝ }
 {
-    let h = wide(net[5]);
-    if net[4] == LOST {
+    let h = holder(net);
+    if phase(net) == LOST {
         return h == 0;
     }
-    if wide(net[3]) <= h {
+    if rows(net) <= h {
         return false;
     }
     regs_at(net, h).on_line()
@@ -190,6 +190,6 @@ pub fn shape(net: &[u8]) -> bool
     if !header_fits(net) {
         return false;
     }
-    let n = wide(net[3]);
+    let n = rows(net);
     rows_fit(net, n) & ids_differ(net, n) & holder_fits(net)
 }

@@ -12,24 +12,24 @@ use Rattle.line.specs.declared.passes.Event.{Event}
 use Rattle.line.specs.declared.passes.Event.the-variants.{Recovery, Message, Taken}
 use Rattle.card.specs.Words.{pick}
 use Rattle.card.specs.Packets.{dataAt, stamped}
-use Rattle.card.specs.Events.{heard, risenNid, cancelled, sent, transmitting, receiving, transmitPage, storable}
+use Rattle.card.specs.Events.{heard, risenNid, cancelled, sent, enquired, transmitting, receiving, transmitPage, storable}
 use Rattle.card.proofs.Rams.{Small}
 use Rattle.table.specs.Network.{phase, holder, LOST, PASS, TAKEN, turned, onRegs, regsAt}
 use Rattle.line.specs.Traffic.{onRow, happens, happened, takes, carriedRow, carried, stampedNet}
 use Rattle.table.proofs.Shaped.Shapes.{Held}
 
--- ---- what a step does to the holder's own registers: an invitation was not answered; the token came; a NAK came; the transmit ended, with an answer heard or
--- not, acknowledged or not
+-- ---- what a step does to the holder's own registers: an invitation was not answered; the token came; an enquiry was answered by a NAK or by nobody; the transmit
+-- ended, with an answer heard or not, acknowledged or not
 pub data Own : Type 0 where
   Rises : Own
   Cancels : Own
-  Waits : Own
+  Enquires : Bool → Own
   Ends : Bool → Bool → Own
 
 abbrev pub does : Own → Regs → Regs
 does Rises g = risenNid g
 does Cancels g = cancelled g
-does Waits g = heard g false
+does (Enquires nak) g = enquired g nak
 does (Ends true a) g = sent (heard g false) a
 does (Ends false a) g = sent g a
 
@@ -72,7 +72,7 @@ keepsNid (Reaches (Message k token)) = true
 keepsNid (Reaches (Taken i t)) = true
 keepsNid (Does Rises) = false
 keepsNid (Does Cancels) = true
-keepsNid (Does Waits) = true
+keepsNid (Does (Enquires nak)) = true
 keepsNid (Does (Ends b a)) = true
 keepsNid (Stamps p) = true
 keepsNid (Carries to broadcast k) = true
@@ -123,7 +123,7 @@ abbrev pub Allowed : List ℕ → List Change → Change → Type 0
 Allowed start l (Reaches e) = Comes start e
 Allowed start l (Does Rises) = phase start ≡ PASS
 Allowed start l (Does Cancels) = phase start ≡ TAKEN
-Allowed start l (Does Waits) = Tries start
+Allowed start l (Does (Enquires nak)) = Tries start
 Allowed start l (Does (Ends b a)) = Tries start
 Allowed start l (Stamps p) = Tries start × (p ≡ transmitPage (regsAt start (holder start)))
 Allowed start l (Carries to broadcast k) = Goes start l to k

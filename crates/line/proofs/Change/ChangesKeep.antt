@@ -28,10 +28,10 @@ use Rattle.table.proofs.Rows.EachRow.{reached}
 use Rattle.table.proofs.Shaped.Shapes.{shape-length, shape-within, shape-row, shape-row-length}
 use Rattle.table.proofs.Shaped.ShapesKept.{Became}
 use Rattle.table.proofs.Shaped.Became.{Moved, Still, still-same, still-regs, became-rows, shape-moved}
-use Rattle.line.proofs.Change.RegsKeep.{Keeps, Stays, row-moved, row-still, stays-sent, stays-heard, stays-heard-sent, stays-cancelled, stays-message, stays-taken, keeps-risen, reaches}
+use Rattle.line.proofs.Change.RegsKeep.{Keeps, Stays, row-moved, row-still, stays-sent, stays-asked, stays-heard-sent, stays-cancelled, stays-message, stays-taken, keeps-risen, reaches}
 use Rattle.line.proofs.Change.TrafficKeep.{carried-still}
 use Rattle.line.proofs.Steps.Stepped.{held-row}
-use Rattle.line.proofs.Change.Changes.{Own, Rises, Cancels, Waits, Ends, does, Change, Reaches, Does, Stamps, Carries, done, rowDone, Sane, keepsNid}
+use Rattle.line.proofs.Change.Changes.{Own, Rises, Cancels, Enquires, Ends, does, Change, Reaches, Does, Stamps, Carries, done, rowDone, Sane, keepsNid}
 
 -- ---- a row: as long, kept, with a RAM of bytes; and with its NID, where n says so
 record Fine (r : List ℕ) (n : Bool) (s : List ℕ) : Type 0 where
@@ -64,7 +64,7 @@ module _ (r : List ℕ) (l : length r ≡ rowBytes) (w : wellFormed r ≡ true) 
   fine h (Reaches (Taken i t)) a j = fine-stays _ (stays-taken i t j)
   fine h (Does Rises) a j = fine-pick false _ (eqb j h) (fine-keeps _ keeps-risen)
   fine h (Does Cancels) a j = fine-pick true _ (eqb j h) (fine-stays _ stays-cancelled)
-  fine h (Does Waits) a j = fine-pick true _ (eqb j h) (fine-stays _ (stays-heard false))
+  fine h (Does (Enquires nak)) a j = fine-pick true _ (eqb j h) (fine-stays _ (stays-asked nak))
   fine h (Does (Ends true x)) a j = fine-pick true _ (eqb j h) (fine-stays _ (stays-heard-sent false x))
   fine h (Does (Ends false x)) a j = fine-pick true _ (eqb j h) (fine-stays _ (stays-sent x))
   fine h (Stamps p) a j =

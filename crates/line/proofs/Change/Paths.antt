@@ -15,7 +15,7 @@ use Rattle.table.proofs.Shaped.Shapes.{shape-row, shape-row-length}
 use Rattle.table.proofs.Shaped.ShapesKept.{shape-turned}
 use Rattle.table.proofs.Shaped.Alike.{Rams, Alike, alike-same, alike-then, alike-moved, alike-turned}
 use Rattle.line.proofs.Steps.Stepped.{held-row}
-use Rattle.line.proofs.Change.Changes.{Rises, Cancels, Waits, Ends, Change, Reaches, Does, Stamps, Carries, rowDone, keepsNid, Allowed, sane, Path, begin, more, turn, keepNids}
+use Rattle.line.proofs.Change.Changes.{Rises, Cancels, Enquires, Ends, Change, Reaches, Does, Stamps, Carries, rowDone, keepsNid, Allowed, sane, Path, begin, more, turn, keepNids}
 use Rattle.line.proofs.Change.ChangesKeep.{done-nid, Made, made, moved-done}
 
 module _ (start : List ℕ) (s : shape start ≡ true) (b : Rams start) where
@@ -69,7 +69,7 @@ module _ (start : List ℕ) (s : shape start ≡ true) (b : Rams start) where
   keeps-taken p l (Reaches (Taken i t)) a = refl
   keeps-taken p l (Does Rises) a = absurd (omega (arith, p, a))
   keeps-taken p l (Does Cancels) a = refl
-  keeps-taken p l (Does Waits) a = refl
+  keeps-taken p l (Does (Enquires nak)) a = refl
   keeps-taken p l (Does (Ends x y)) a = refl
   keeps-taken p l (Stamps x) a = refl
   keeps-taken p l (Carries to broadcast k) a = refl

@@ -1,7 +1,7 @@
 -- What the line does to a card's registers, and the row that is given them: kept, and with the NID that it had but for a recovery and a rise.
 -- Assumes nothing.
 use mathlib.Core.Path.{_≡_, _∙_, ap}
-use mathlib.Core.Bool.{Bool, true}
+use mathlib.Core.Bool.{Bool, true, false}
 use mathlib.Core.List.{List}
 use Prim.Native.Nat.{ℕ}
 use native.Mathlib.Omega.{arith}
@@ -11,12 +11,13 @@ use Rattle.card.specs.declared.regs.Regs.{Regs}
 use Rattle.line.specs.declared.passes.Event.{Event}
 use Rattle.line.specs.declared.passes.Event.the-variants.{Recovery, Message, Taken}
 use Rattle.card.specs.Row.{rowBytes, regsOf, putRegs, onLine, wellFormed}
-use Rattle.card.specs.Events.{heard, risenNid, received, cancelled, sent}
+use Rattle.card.specs.Events.{heard, risenNid, received, cancelled, sent, enquired}
 use Rattle.card.proofs.Bools.{pick-of}
 use Rattle.card.proofs.Rows.{regs-put}
 use Rattle.card.proofs.Fits.{Fit}
 use Rattle.card.proofs.LineKeeps.{keep-heard, keep-answered, keep-recovered, keep-risen, keep-received, keep-cancelled, keep-sent}
 use Rattle.card.proofs.Kept as card
+use Rattle.card.proofs.Traffic.{enquired-nak, enquired-unanswered}
 use Rattle.card.proofs.Stays.{well-regs}
 use Rattle.card.proofs.Rams.{ram-put}
 use Rattle.line.specs.Traffic.{happens}
@@ -64,8 +65,12 @@ Stays f = (g : Regs) → Fit g → SameNid g (f g)
 pub stays-sent : (a : Bool) → Stays (λ g. sent g a)
 stays-sent a g f = record { fits = keep-sent g f a; kept = card.kept-sent g a }
 
-pub stays-heard : (t : Bool) → Stays (λ g. heard g t)
+stays-heard : (t : Bool) → Stays (λ g. heard g t)
 stays-heard t g f = record { fits = keep-heard g f t; kept = card.kept-heard g t }
+
+pub stays-asked : (nak : Bool) → Stays (λ g. enquired g nak)
+stays-asked true g f = rw (enquired-nak g) (stays-heard false g f)
+stays-asked false g f = rw (enquired-unanswered g) (stays-sent false g f)
 
 pub stays-heard-sent : (t a : Bool) → Stays (λ g. sent (heard g t) a)
 stays-heard-sent t a g f =

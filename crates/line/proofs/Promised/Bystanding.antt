@@ -28,7 +28,7 @@ use Rattle.line.specs.Traffic.{happens, storedRow, takes, carriedRow}
 use Rattle.line.specs.Step.{step}
 use Rattle.line.specs.Outcomes.{stores}
 use Rattle.table.proofs.Shaped.Alike.{Rams}
-use Rattle.line.proofs.Change.Changes.{Rises, Cancels, Waits, Ends, Change, Reaches, Does, Stamps, Carries, rowDone, Whole, Allowed, storesIt, storedBy}
+use Rattle.line.proofs.Change.Changes.{Rises, Cancels, Enquires, Ends, Change, Reaches, Does, Stamps, Carries, rowDone, Whole, Allowed, storesIt, storedBy}
 use Rattle.line.proofs.Change.Paths.{by-rows}
 use Rattle.line.proofs.Turn.TakenBy.{or-false}
 use Rattle.line.proofs.Steps.StepBy.{step-by}
@@ -110,7 +110,7 @@ module _ (net : List ℕ) (s : shape net ≡ true) (b : Rams net) (fault : ℕ) 
     seen (Reaches e) a = watches-put x was r m (happens e j (regsOf r)) (reaches e j (regsOf r)) q
     seen (Does Rises) a = pick-of (Watches x was) (eqb j (holder net)) (λ _. watches-put x was r m _ (reached-risen (regsOf r)) q) (λ _. q)
     seen (Does Cancels) a = not-mine a _
-    seen (Does Waits) a = not-mine (a .taken) _
+    seen (Does (Enquires nak)) a = not-mine (a .taken) _
     seen (Does (Ends y z)) a = not-mine (a .taken) _
     seen (Stamps p) a = not-mine (a .0 .taken) _
     seen (Carries to broadcast k) a =

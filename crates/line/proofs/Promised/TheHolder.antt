@@ -22,6 +22,7 @@ use Rattle.card.specs.Bystander.{Sends}
 use Rattle.card.proofs.Bools.{cases, and-left, and-right, pick-of}
 use Rattle.card.proofs.Rows.{regs-put, put-rest}
 use Rattle.card.proofs.Fits.{Fit}
+use Rattle.card.proofs.Traffic.{enquired-nak, enquired-unanswered}
 use Rattle.card.proofs.Stays.{regs-stamped}
 use Rattle.card.proofs.Bystanders.{stamped-other}
 use Rattle.card.proofs.Ends.{is-sent, heard-status, waits, idle, cancelled-tma}
@@ -51,11 +52,11 @@ left-by g f Nothing e =
     record { registers = refl; ta = d .0; tma = cancelled-tma g; page = λ _. d .1 }
 left-by g f Malformed e = left-sent g _ false Malformed refl refl (λ b. refl)
 left-by g f Broadcast e = left-sent g _ false Broadcast refl refl (λ b. refl)
-left-by g f NoAnswer e = left-sent g _ false NoAnswer refl refl (λ b. refl)
+left-by g f NoAnswer e = rw (enquired-unanswered (cancelled g)) (left-sent g _ false NoAnswer (sym (enquired-unanswered (cancelled g))) refl (λ b. refl))
 left-by g f Nak e =
     let d = waits (cancelled g) (keep-cancelled g f) e in
     let i = heard-status (cancelled g) false in
-    record { registers = refl; ta = rw i (d .0); tma = rw i (d .1); page = λ z. absurd (clash z refl) }
+    rw (enquired-nak (cancelled g)) (record { registers = sym (enquired-nak (cancelled g)); ta = rw i (d .0); tma = rw i (d .1); page = λ z. absurd (clash z refl) })
 left-by g f Delivered e = left-sent g _ true Delivered refl refl (λ b. refl)
 left-by g f Unacknowledged e = left-sent g _ false Unacknowledged refl refl (λ b. refl)
 

@@ -18,7 +18,8 @@ use Rattle.table.specs.Network.{headerBytes, rows, phase, holder, LOST, PASS, T
 use Rattle.line.specs.Traffic.{Turn, happened, takenTurn}
 use Rattle.line.specs.Step.{highest, invited, taker, step}
 use Rattle.table.proofs.Rows.Networks.{length-turned, rowAt-turned, phase-turned, holder-turned}
-use Rattle.line.proofs.Turn.Sends.{has-header}
+use Rattle.table.proofs.Online.Nodes.{online-is}
+use Rattle.table.proofs.Shaped.Bounds.{bounds}
 use Rattle.line.proofs.Steps.Stepped.{held-row}
 use Rattle.line.proofs.Change.Changes.{Rises, Reaches, Does, Path, begin, more}
 use Rattle.line.proofs.Change.ChangesKeep.{made, own-here, own-there, shape-happened, happened-here}
@@ -41,17 +42,16 @@ module _ (net : List ℕ) (s : shape net ≡ true) (b : Rams net) where
     pub nid : (k : ℕ) → k < rows net → onLineAt net k ≡ true → regsAt (step net 0 .after) k .nid ≡ regsAt net k .id
 
   pub lost-step : phase net ≡ LOST → (topId net (rows net) ≡ 0 → ⊥) → AfterLost
-  unfolding onLineAt
   lost-step p ne =
       let e = lost-is net s p ne in
       let m = happened net Recovery in
-      let l = has-header m (shape-happened net Recovery s) in
+      let l = bounds m (shape-happened net Recovery s) _ refl .header in
       record {
         answer = ap (λ (t : Turn Answer). t .answer) e;
         alike = any-step;
         phase = rw e (phase-turned m PASS (highest net) l);
         holder = rw e (holder-turned m PASS (highest net) l);
-        nid = λ k lk o. let on : onLine (regsAt net k) ≡ true = o in
+        nid = λ k lk o. let on : onLine (regsAt net k) ≡ true = online-is net k (regsAt net k) _ refl refl ∙ o in
             rw (e, rowAt-turned m PASS (highest net) k) (ap (λ (g : Regs). g .nid) (happened-here net Recovery s k lk) ∙ is-recovered (regsAt net k) .nid ∙ rw on);
       }
 
@@ -72,7 +72,7 @@ module _ (net : List ℕ) (s : shape net ≡ true) (b : Rams net) where
       let t = taker net in
       let m = happened (invitation net) (Taken (invited net) t) in
       let q = more (invites p) (Reaches (Taken (invited net) t)) p in
-      let l = has-header m (sound net s b q .fits) in
+      let l = bounds m (sound net s b q .fits) _ refl .header in
       record {
         answer = ap (λ (t : Turn Answer). t .answer) e;
         alike = any-step;
@@ -123,7 +123,7 @@ module _ (net : List ℕ) (s : shape net ≡ true) (b : Rams net) where
       let e = held-is net s p in
       let h = holder net in
       let m = takenTurn net h 0 .after in
-      let l : headerBytes ≤ length m = omega (arith, length-turned m PASS h, has-header (turned m PASS h) (rw e at (any-step .fits))) in
+      let l : headerBytes ≤ length m = omega (arith, length-turned m PASS h, bounds (turned m PASS h) (rw e at (any-step .fits)) _ refl .header) in
       record {
         outcome = takenTurn net h 0 .answer;
         answer = ap (λ (t : Turn Answer). t .answer) e;

@@ -15,10 +15,16 @@ use Rattle.line.specs.declared.traffic.Outcome.the-variants.{NoAnswer, N
 use Rattle.card.specs.Words.{pick}
 use Rattle.card.specs.Packets.{pageShape}
 use Rattle.card.specs.Row.{putRegs}
-use Rattle.card.specs.Events.{heard, sent, receiving, storable}
+use Rattle.card.specs.Events.{heard, sent, enquired, receiving, storable}
 use Rattle.table.specs.Network.{rows, rowAt, setRow, eachRow, onRegs, regsAt}
-use Rattle.line.specs.Traffic.{happens, acknowledged, wentOut, packetTurn, enquiryTurn}
+use Rattle.line.specs.Traffic.{happens, acknowledged, wentOut, packetTurn, asked, enquiryTurn}
 use Rattle.line.proofs.Turn.Sends.{is-happened, put-after}
+
+-- an enquiry that no packet follows
+pub asked-is : (net : List ℕ) (h n : ℕ) → n ≡ rows net → (nak : Bool) (x : List ℕ) → x ≡ eachRow (λ k r. onRegs (happens (Message h false) k) r) net n
+    → (r : Regs) → r ≡ regsAt x h → (g : Regs) → g ≡ enquired r nak → (y : List ℕ) → y ≡ setRow x h (putRegs (rowAt x h) g) → y ≡ asked net h nak
+unfolding asked
+asked-is net h n en nak x ex r er g eg y ey = put-after _ x (is-happened net n en (Message h false) x ex) h r er (λ (g : Regs). enquired g nak) g eg y ey
 
 module _ (net : List ℕ) (h p fault t : ℕ) where
   -- what the code tests is what acknowledges
@@ -37,26 +43,18 @@ module _ (net : List ℕ) (h p fault t : ℕ) where
 
   module _ (n : ℕ) (en : n ≡ rows net) where
     -- no row has the ID
-    pub no-answer : n ≤ t → (x : List ℕ) → x ≡ eachRow (λ k r. onRegs (happens (Message h false) k) r) net n
-        → (r : Regs) → r ≡ regsAt x h → (g : Regs) → g ≡ sent r false → (y : List ℕ) → y ≡ setRow x h (putRegs (rowAt x h) g)
-        → (NoAnswer ≡ enquiryTurn net h p fault t .answer) × (y ≡ enquiryTurn net h p fault t .after)
+    pub no-answer : n ≤ t → (y : List ℕ) → y ≡ asked net h false → (NoAnswer ≡ enquiryTurn net h p fault t .answer) × (y ≡ enquiryTurn net h p fault t .after)
     unfolding enquiryTurn
-    no-answer l x ex r er g eg y ey =
-        let f : ltb t (rows net) ≡ false = le-ltb t (rows net) (omega arith) in
-        (rw f, rw f (put-after _ x (is-happened net n en (Message h false) x ex) h r er (λ (g : Regs). sent g false) g eg y ey))
+    no-answer l y ey = let f : ltb t (rows net) ≡ false = le-ltb t (rows net) (omega arith) in (rw f, rw f ey)
 
     module _ (l : t < n) (q : Regs) (eq : q ≡ regsAt net t) (b : Bool) (eb : b ≡ receiving q) where
       here : ltb t (rows net) ≡ true
       here = lt-ltb t (rows net) (omega arith)
 
       -- its RI is 1
-      pub refused : b ≡ false → (x : List ℕ) → x ≡ eachRow (λ k r. onRegs (happens (Message h false) k) r) net n
-          → (r : Regs) → r ≡ regsAt x h → (g : Regs) → g ≡ heard r false → (y : List ℕ) → y ≡ setRow x h (putRegs (rowAt x h) g)
-          → (Nak ≡ enquiryTurn net h p fault t .answer) × (y ≡ enquiryTurn net h p fault t .after)
+      pub refused : b ≡ false → (y : List ℕ) → y ≡ asked net h true → (Nak ≡ enquiryTurn net h p fault t .answer) × (y ≡ enquiryTurn net h p fault t .after)
       unfolding enquiryTurn
-      refused f x ex r er g eg y ey =
-          let v : receiving (regsAt net t) ≡ false = sym (eb ∙ ap receiving eq) ∙ f in
-          (rw (here, v), rw (here, v) (put-after _ x (is-happened net n en (Message h false) x ex) h r er (λ (g : Regs). heard g false) g eg y ey))
+      refused f y ey = let v : receiving (regsAt net t) ≡ false = sym (eb ∙ ap receiving eq) ∙ f in (rw (here, v), rw (here, v) ey)
 
       -- the packet goes
       pub answered-by : b ≡ true → (o : Outcome) (y : List ℕ) → (o ≡ packetTurn net h p fault t .answer) × (y ≡ packetTurn net h p fault t .after)

@@ -1,6 +1,6 @@
 -- A packet goes out, put together from what its parts ensure.
 -- Assumes nothing.
-use mathlib.Core.Path.{_≡_, sym, _∙_, ap}
+use mathlib.Core.Path.{_≡_, refl, sym, _∙_, ap}
 use mathlib.Core.Bool.{Bool, true, false}
 use mathlib.Core.List.{List}
 use Prim.Native.Nat.{ℕ, _+_, _-_, _≤_, _<_}
@@ -14,25 +14,13 @@ use Rattle.line.specs.declared.passes.Event.{Event}
 use Rattle.line.specs.declared.passes.Event.the-variants.{Message}
 use Rattle.card.specs.Row.{rowBytes, putRegs}
 use Rattle.card.specs.Packets.{packetAt, stamped}
-use Rattle.table.specs.Network.{headerBytes, rowStart, rows, holder, rowAt, setRow, eachRow, onRegs, regsAt, rowsFit, shape}
+use Rattle.table.specs.Network.{rowStart, rows, rowAt, setRow, eachRow, onRegs, regsAt, rowsFit, shape}
 use Rattle.line.specs.Traffic.{onRow, happens, happened, carriedRow, carried, stampedNet, wentOut}
-use Rattle.table.proofs.Folds.{every-of}
 use Rattle.table.proofs.Rows.Networks.{mid-row, put-row}
-use Rattle.table.proofs.Shaped.Shapes.{shape-length, shape-row, shape-within}
+use Rattle.table.proofs.Shaped.Shapes.{shape-within, shape-fits}
+use Rattle.table.proofs.Shaped.Bounds.{bounds}
 use Rattle.line.proofs.Change.Changes.{Stamps}
 use Rattle.line.proofs.Change.ChangesKeep.{shape-done, rows-done, shape-happened, rows-happened}
-
--- the bounds that a well-formed network gives to the code
-module _ (net : List ℕ) (s : shape net ≡ true) where
-  pub has-header : headerBytes ≤ length net
-  has-header = omega (arith, shape-length net s)
-
-  pub has-rows : rowStart (rows net) ≤ length net
-  has-rows = omega (arith, shape-length net s)
-
-  pub rows-fit : rowsFit net (rows net) ≡ true
-  unfolding rowsFit
-  rows-fit = every-of _ (rows net) (shape-row net s)
 
 -- the event that reached each row
 pub is-happened : (net : List ℕ) (n : ℕ) → n ≡ rows net → (e : Event) (x : List ℕ) → x ≡ eachRow (λ k r. onRegs (happens e k) r) net n → x ≡ happened net e
@@ -57,7 +45,7 @@ module _ (net : List ℕ) (s : shape net ≡ true) (h p : ℕ) (l : h < rows net
   stamped-bounds m e n en =
       let t = shape-stamped in
       let r : n ≡ rows (stampedNet net h p) = en ∙ sym rows-stamped in
-      (rw (stamped-is m e) (shape-within (stampedNet net h p) t h (omega (arith, rows-stamped))), rw (stamped-is m e, r) (has-rows (stampedNet net h p) t))
+      (rw (stamped-is m e) (shape-within (stampedNet net h p) t h (omega (arith, rows-stamped))), rw (stamped-is m e) (bounds (stampedNet net h p) t _ refl .all n r))
 
   abbrev went : List ℕ
   went = happened (stampedNet net h p) (Message h false)
@@ -75,7 +63,7 @@ module _ (net : List ℕ) (s : shape net ≡ true) (h p : ℕ) (l : h < rows net
     pub went-fits : (rowStart n ≤ length y) × (rowsFit y n ≡ true)
     went-fits =
         let e : n ≡ rows went = en ∙ sym rows-went in
-        (rw (is-went, e) (has-rows went shape-went), rw (is-went, e) (rows-fit went shape-went))
+        (rw is-went (bounds went shape-went _ refl .all n e), rw (is-went, e) (shape-fits went shape-went))
 
     pub went-damaged : (fault to : ℕ) (b : Bool) → fault ≡ 1 → y ≡ wentOut net h p fault to b
     unfolding wentOut
@@ -88,29 +76,8 @@ module _ (net : List ℕ) (s : shape net ≡ true) (h p : ℕ) (l : h < rows net
         let e : n ≡ rows went = en ∙ sym rows-went in
         rw (ne-eqb _ _ f) (rw (is-went, e, ek, er, ex) at ez)
 
--- a call keeps a slice's length, and so a row stays within it
-pub within-kept : (net : List ℕ) → shape net ≡ true → (k : ℕ) → k < rows net → (n : ℕ) → n ≡ length net → rowStart k + rowBytes ≤ n
-within-kept net s k l n e = omega (arith, shape-within net s k l)
-
 -- row k of a network that is w is given other registers
 pub put-after : (w x : List ℕ) → x ≡ w → (k : ℕ) (r : Regs) → r ≡ regsAt x k → (f : Regs → Regs) (g : Regs) → g ≡ f r
     → (y : List ℕ) → y ≡ setRow x k (putRegs (rowAt x k) g) → y ≡ onRow w k f
 unfolding onRow
 put-after w x ex k r er f g eg y ey = rw (ey, eg, er, ex)
-
-pub rows-within : (net : List ℕ) → shape net ≡ true → (n : ℕ) → n ≡ rows net → rowStart n ≤ length net
-rows-within net s n e = rw e (has-rows net s)
-
-pub header-kept : (net : List ℕ) → shape net ≡ true → (n : ℕ) → n ≡ length net → headerBytes ≤ n
-header-kept net s n e = rw e (has-header net s)
-
--- the holder's row, where the code has read the holder
-module _ (net : List ℕ) (s : shape net ≡ true) (l : holder net < rows net) (h : ℕ) (e : h ≡ holder net) where
-  pub holder-within : rowStart h + rowBytes ≤ length net
-  holder-within = rw e (shape-within net s (holder net) l)
-
-  pub holder-kept : (n : ℕ) → n ≡ length net → rowStart h + rowBytes ≤ n
-  holder-kept n k = omega (arith, holder-within)
-
-pub rows-kept : (net : List ℕ) → shape net ≡ true → (n : ℕ) → n ≡ rows net → (l : ℕ) → l ≡ length net → rowStart n ≤ l
-rows-kept net s n e l k = rw k (rows-within net s n e)

@@ -25,7 +25,7 @@ use Rattle.card.proofs.PacketLaws.{packet-full, packet-count}
 use Rattle.card.proofs.Rams.{packet-bytes}
 use Rattle.card.proofs.Bystanders.{stamped-shape}
 use Rattle.table.specs.Network.{rows, phase, holder, TAKEN, rowAt, regsAt, nodeOf, shape}
-use Rattle.line.specs.Traffic.{Turn, onRow, happened, damaged, takes, stampedNet, wentOut, broadcastTurn, acknowledged, packetTurn, enquiryTurn, tryTurn, takenTurn}
+use Rattle.line.specs.Traffic.{Turn, onRow, happened, damaged, takes, stampedNet, wentOut, broadcastTurn, acknowledged, packetTurn, asked, enquiryTurn, tryTurn, takenTurn}
 use Rattle.line.specs.Step.{stepNumber}
 use Rattle.line.specs.Outcomes.{stores, holderAfter}
 use Rattle.table.proofs.Rows.Networks.{rowAt-setRow}
@@ -33,7 +33,7 @@ use Rattle.table.proofs.Online.Nodes.{nodeOf-found}
 use Rattle.table.proofs.Shaped.Shapes.{shape-within, shape-row-length}
 use Rattle.table.proofs.Shaped.Alike.{Rams, Alike}
 use Rattle.line.proofs.Steps.Stepped.{held-row}
-use Rattle.line.proofs.Change.Changes.{Own, Cancels, Waits, Ends, does, Change, Reaches, Does, Stamps, Carries, Tries, Allowed, Path, begin, more, allDone, storedBy}
+use Rattle.line.proofs.Change.Changes.{Own, Cancels, Enquires, Ends, does, Change, Reaches, Does, Stamps, Carries, Tries, Allowed, Path, begin, more, allDone, storedBy}
 use Rattle.line.proofs.Change.ChangesKeep.{own-here, own-there}
 use Rattle.line.proofs.Change.Paths.{sound}
 
@@ -199,14 +199,14 @@ module _ (net : List ℕ) (s : shape net ≡ true) (b : Rams net) (fault : ℕ) 
             (λ (e : eqb j to ≡ false). rw e (sym (and-false (not (damaged fault))))) (cases (eqb j to)))
 
         enquiry-ends : Held (enquiryTurn m h page fault to)
-        unfolding enquiryTurn
+        unfolding enquiryTurn asked
         enquiry-ends =
             pick-of Held (ltb to (rows m))
             (λ l. let v = ltb-true to (rows m) l in
             pick-of Held (receiving (regsAt m to)) (λ _. packet-ends v)
-            (λ e. ends asks (λ g. refl) Waits tries Nak (λ g. refl) refl (unstored (λ j lj i. ap (λ (r : List ℕ). receiving (regsOf r))
+            (λ e. ends asks (λ g. refl) (Enquires true) tries Nak (λ g. refl) refl (unstored (λ j lj i. ap (λ (r : List ℕ). receiving (regsOf r))
             (sym (own-there net h s low Cancels j lj (λ y. nodeOf-found m did h (rows m) v .1 (sym i ∙ y)))) ∙ ap (λ (k : ℕ). receiving (regsAt m k)) i ∙ e))))
-            (λ l. ends asks (λ g. refl) (Ends false false) tries NoAnswer (λ g. refl) refl
+            (λ l. ends asks (λ g. refl) (Enquires false) tries NoAnswer (λ g. refl) refl
             (unstored (λ j lj i. absurd (omega (arith, now .count, ltb-false to (rows m) l)))))
 
     try-ends : Held (tryTurn m h page fault)

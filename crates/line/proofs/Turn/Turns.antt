@@ -1,12 +1,12 @@
 -- The LOST and the PASS step, put together from what their parts ensure.
 -- Assumes nothing.
 use mathlib.Core.Path.{_≡_, sym, _∙_, ap}
-use mathlib.Core.Bool.{true, false, not, _&&_}
+use mathlib.Core.Bool.{true, false}
 use mathlib.Core.List.{List}
 use Prim.Native.Nat.{ℕ, _≤_, _<_}
 use native.Mathlib.Omega.{arith}
 use borrow.Author.Tests.{eq-eqb, ne-eqb, lt-ltb, le-ltb}
-use lib.Dec.{eqb, ltb}
+use lib.Dec.{ltb}
 use Rattle.card.specs.declared.regs.Regs.{Regs}
 use Rattle.line.specs.declared.passes.Event.the-variants.{Recovery, Message, Taken}
 use Rattle.line.specs.declared.traffic.Outcome.{Outcome}
@@ -14,18 +14,17 @@ use Rattle.line.specs.declared.step.Answer.{Answer}
 use Rattle.line.specs.declared.step.Answer.the-variants.{Quiet, Recovered, Passed, Unanswered, TokenLost, Held}
 use Rattle.card.specs.Row.{putRegs}
 use Rattle.card.specs.Events.{risenNid}
-use Rattle.table.specs.Network.{rows, phase, holder, LOST, PASS, TAKEN, turned, rowAt, setRow, eachRow, onRegs, regsAt, isNode, nodeOf, topId, shape}
+use Rattle.table.specs.Network.{rows, phase, holder, LOST, PASS, TAKEN, turned, rowAt, setRow, eachRow, onRegs, regsAt, nodeOf, topId, shape}
 use Rattle.line.specs.Traffic.{happens, happened, takenTurn}
 use Rattle.line.specs.Step.{lostTurn, passTurn, invited, taker, stepTurn}
-use Rattle.table.proofs.Folds.{seek-at-most}
+use Rattle.table.proofs.Online.Nodes.{nodeOf-most}
 use Rattle.table.proofs.Shaped.Shapes.{shape-rows}
 use Rattle.line.proofs.Change.ChangesKeep.{rows-happened}
 use Rattle.line.proofs.Turn.Sends.{is-happened, put-after}
 
 -- a row that was looked for is a byte, found or not
 pub node-byte : (net : List ℕ) → shape net ≡ true → (i x n : ℕ) → n ≡ rows net → (t : ℕ) → t ≡ nodeOf net i x n → t < 256
-unfolding nodeOf
-node-byte net s i x n en t et = omega (arith, et, seek-at-most (λ k. isNode net i k && not (eqb k x)) n, shape-rows net s .1)
+node-byte net s i x n en t et = omega (arith, et, nodeOf-most net i x n, shape-rows net s .1)
 
 module _ (net : List ℕ) (n : ℕ) (en : n ≡ rows net) where
   module _ (top : ℕ) (et : top ≡ topId net n) where
@@ -97,10 +96,10 @@ module _ (net : List ℕ) (fault : ℕ) where
     in-pass p a y e = let v = ne-eqb (phase net) LOST l in let w = eq-eqb (phase net) PASS p in (rw (v, w) (e .0), rw (v, w) (e .1))
 
     pub in-taken : (phase net ≡ PASS → ⊥) → (h : ℕ) → h ≡ holder net → (o : Outcome) (x : List ℕ)
-        → (o ≡ takenTurn net h fault .answer) × (x ≡ takenTurn net h fault .after) → (y : List ℕ) → y ≡ turned x PASS (holder net)
+        → (o ≡ takenTurn net h fault .answer) × (x ≡ takenTurn net h fault .after) → (y : List ℕ) → y ≡ turned x PASS h
         → (Held o ≡ stepTurn net fault .answer) × (y ≡ stepTurn net fault .after)
     unfolding stepTurn
     in-taken p h eh o x e y ey =
         let v = ne-eqb (phase net) LOST l in
         let w = ne-eqb (phase net) PASS p in
-        (rw (v, w, ← eh) (ap Held (e .0)), rw (v, w) (ey ∙ ap (λ (z : List ℕ). turned z PASS (holder net)) (e .1 ∙ rw eh)))
+        (rw (v, w, ← eh) (ap Held (e .0)), rw (v, w, ← eh) (ey ∙ ap (λ (z : List ℕ). turned z PASS h) (e .1)))

@@ -1,14 +1,12 @@
 -- A refused call leaves the network as it was, and gives nothing beside its number.
 -- Assumes nothing.
-use mathlib.Core.Path.{_≡_, refl, sym, ap, _∙_}
-use mathlib.Core.Bool.{Bool, true, false}
+use mathlib.Core.Path.{_≡_, ap, _∙_}
+use mathlib.Core.Bool.{true, false}
 use mathlib.Core.List.{List, []}
 use mathlib.Core.Logic.{⊎-elim}
 use Prim.Native.Nat.{ℕ}
 use lib.Dec.{eqb}
 use borrow.Author.Tests.{ne-eqb}
-use Rattle.card.specs.Packets.{dataNumber}
-use Rattle.card.specs.Access.{reading, rowAfterRead}
 use Rattle.card.proofs.Bools.{cases}
 use Rattle.card.proofs.Refused as card
 use Rattle.table.specs.Network.{rowAt, setRow}

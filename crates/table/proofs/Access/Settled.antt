@@ -29,21 +29,20 @@ module _ (net : List ℕ) (k : ℕ) (was : Bool) (g : Regs) (b : Bool) (p : g �
   unfolding settled
   settle-stays t u = rw (sym (online-is net k g b p q) ∙ t, u)
 
-  pub settle-bursts : b ≡ true → was ≡ false → (h : Regs) → h ≡ burst g → (s : List ℕ) → s ≡ putRegs (lent net k) h
-      → (m : List ℕ) → m ≡ turned (back net k s) LOST 0 → m ≡ settled net k was
+  pub settle-bursts : b ≡ true → was ≡ false → (h : Regs) → h ≡ burst g → (s : List ℕ) → s ≡ setRow net k (putRegs (rowAt net k) h)
+      → (m : List ℕ) → m ≡ turned s LOST 0 → m ≡ settled net k was
   unfolding settled
-  settle-bursts t u h d s c m a =
-      a ∙ rw (sym (online-is net k g b p q) ∙ t, u, put-row, c ∙ ap (λ (r : List ℕ). putRegs r h) (mid-row net k), d, p)
+  settle-bursts t u h d s c m a = a ∙ rw (sym (online-is net k g b p q) ∙ t, u, c, d, p)
 
-  module _ (t : b ≡ false) (h : ℕ) (e : h ≡ holder net) where
-    held : (was && not (eqb (phase net) LOST) && eqb h k) ≡ (was && isHolder net k)
-    held = rw e (sym (and-assoc was (not (eqb (phase net) LOST)) (eqb (holder net) k)))
+  module _ (t : b ≡ false) (f : ℕ) (d : f ≡ phase net) (h : ℕ) (e : h ≡ holder net) where
+    held : (was && not (eqb f LOST) && eqb h k) ≡ (was && isHolder net k)
+    held = rw (d, e) (sym (and-assoc was (not (eqb (phase net) LOST)) (eqb (holder net) k)))
 
-    pub settle-lost : (was && not (eqb (phase net) LOST) && eqb h k) ≡ true → (m : List ℕ) → m ≡ turned net LOST 0 → m ≡ settled net k was
+    pub settle-lost : (was && not (eqb f LOST) && eqb h k) ≡ true → (m : List ℕ) → m ≡ turned net LOST 0 → m ≡ settled net k was
     unfolding settled
     settle-lost u m a = a ∙ rw (sym (online-is net k g b p q) ∙ t, sym held ∙ u)
 
-    pub settle-kept : (was && not (eqb (phase net) LOST) && eqb h k) ≡ false → net ≡ settled net k was
+    pub settle-kept : (was && not (eqb f LOST) && eqb h k) ≡ false → net ≡ settled net k was
     unfolding settled
     settle-kept u = rw (sym (online-is net k g b p q) ∙ t, sym held ∙ u)
 

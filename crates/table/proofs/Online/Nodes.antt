@@ -1,20 +1,21 @@
 -- The rows on line: what the code reads of a row, the search for an ID, and the highest ID, as loops go through them.
 -- Assumes nothing.
-use mathlib.Core.Path.{_≡_, refl, _∙_, ap}
+use mathlib.Core.Path.{_≡_, refl, sym, _∙_, ap}
 use mathlib.Core.Bool.{Bool, true, false, not, _&&_}
 use mathlib.Core.List.{List}
-use Prim.Native.Nat.{ℕ, _+_, _≤_, _<_}
+use Prim.Native.Nat.{ℕ, zero, suc, _+_, _≤_, _<_}
+use native.Mathlib.Omega.{arith}
 use native.Mathlib.Numerals.{add-one}
 use lib.Dec.{eqb, ltb}
 use borrow.Author.Tests.{eqb-true, eqb-false, eq-eqb, ne-eqb, not-true}
 use Rattle.card.specs.declared.regs.Regs.{Regs}
 use Rattle.card.specs.Words.{pick}
 use Rattle.card.specs.Row.{onLine}
-use Rattle.card.proofs.Bools.{and-left, and-right}
+use Rattle.card.proofs.Bools.{and-left, and-right, pick-of}
 use Rattle.card.proofs.Kept.{on-line-id}
 use Rattle.table.specs.Folds.{seek}
 use Rattle.table.specs.Network.{rowAt, regsAt, onLineAt, isNode, nodeOf, topId}
-use Rattle.table.proofs.Folds.{seek-at-most, seek-found, seek-least}
+use Rattle.table.proofs.Folds.{clash, seek-at-most, seek-found, seek-least}
 
 and-true : (b : Bool) → (b && true) ≡ b
 and-true true = refl
@@ -85,6 +86,16 @@ module _ (net : List ℕ) (i x n : ℕ) where
   nodeOf-fails e j l ne =
       let t = seek-least (other net i x) n j (rw e l) in
       rw (ne-eqb j x ne, and-true) at t
+
+-- where no row is on line with the highest ID, nobody is on line
+pub topId-nobody : (net : List ℕ) (n i : ℕ) → topId net n ≡ i → ((j : ℕ) → j < n → isNode net i j ≡ false) → i ≡ 0
+unfolding topId
+topId-nobody net zero i e q = sym e
+topId-nobody net (suc n) i e q =
+    let t = onLineAt net n && ltb (topId net n) (regsAt net n .id) in
+    pick-of (λ (x : ℕ). x ≡ i → i ≡ 0) t
+    (λ a u. absurd (clash (node-of net n i (and-left (onLineAt net n) (ltb (topId net n) (regsAt net n .id)) a) u) (q n (omega arith))))
+    (λ _ u. topId-nobody net n i u (λ j l. q j (omega arith))) e
 
 -- ---- a row that is the same in two networks
 module _ (net new : List ℕ) (k : ℕ) (e : rowAt new k ≡ rowAt net k) where

@@ -63,6 +63,11 @@ holder-of net a b =
     ⊎-elim (λ (t : eqb (phase net) LOST ≡ true). simp (t, eq-eqb _ _ (a (eqb-true _ _ t))))
     (λ (t : eqb (phase net) LOST ≡ false). let h = b (eqb-false _ _ t) in simp (t, lt-ltb _ _ (h .0), h .1)) (cases (eqb (phase net) LOST))
 
+-- ---- the rows
+pub fits-row : (net : List ℕ) (n : ℕ) → rowsFit net n ≡ true → (k : ℕ) → k < n → wellFormed (rowAt net k) ≡ true
+unfolding rowsFit
+fits-row net n t k l = every-at (λ (i : ℕ). wellFormed (rowAt net i)) n k t l
+
 -- ---- the parts of SHAPE
 parts : (a b c d e : Bool) → (a && b && c && d && e) ≡ true → (b ≡ true) × (c ≡ true) × (d ≡ true) × (e ≡ true)
 parts a b c d e h =
@@ -94,9 +99,11 @@ module _ (net : List ℕ) (s : shape net ≡ true) where
   pub shape-within : (k : ℕ) → k < rows net → rowStart k + rowBytes ≤ length net
   shape-within k l = omega (arith, shape-length)
 
+  pub shape-fits : rowsFit net (rows net) ≡ true
+  shape-fits = tests .1
+
   pub shape-row : (k : ℕ) → k < rows net → wellFormed (rowAt net k) ≡ true
-  unfolding rowsFit
-  shape-row k l = every-at (λ (i : ℕ). wellFormed (rowAt net i)) (rows net) k (tests .1) l
+  shape-row k l = fits-row net (rows net) shape-fits k l
 
   pub shape-row-length : (k : ℕ) → k < rows net → length (rowAt net k) ≡ rowBytes
   shape-row-length k l = length-rowAt net k (shape-within k l)

@@ -5,9 +5,9 @@ use Prim.Native.Nat.{ℕ, _-_, _≤_, _<_}
 use lib.ListN.{length}
 use native.Mathlib.Omega.{arith}
 use Rattle.card.specs.Row.{wellFormed}
-use Rattle.table.specs.Network.{rowAt, eachRow, rowsFit}
+use Rattle.table.specs.Network.{rowAt, eachRow}
 use Rattle.line.specs.Traffic.{carriedRow}
-use Rattle.table.proofs.Folds.{every-at}
+use Rattle.table.proofs.Shaped.Shapes.{fits-row}
 use Rattle.table.proofs.Rows.Networks.{mid-row, length-rowAt}
 use Rattle.table.proofs.Rows.EachRow.{eachRow-none}
 use Rattle.table.proofs.Rows.Loops.{next-row, rest-kept}
@@ -28,14 +28,13 @@ loop-holds : tie.Need-loop-holds Inv-loop μ-loop
 loop-holds c = (search needs, refl, sym (eachRow-none _ _), λ j a b. refl)
 
 carry-row-requires : tie.Need-carry-row-requires Inv-loop μ-loop
-unfolding rowsFit
 carry-row-requires c κs =
     let t = c .before .before .before .before in
     let s = t .before .before .before in
     let k = t .before .loop .k in
     let m = mid-row (t .before .loop .net) k in (
       ap length m ∙ length-rowAt _ k (omega arith),
-      ap wellFormed (m ∙ t .before .loop .inv .3 k (omega arith) (t .loop-test .taken)) ∙ every-at _ _ k (s .pre .1) (t .loop-test .taken),
+      ap wellFormed (m ∙ t .before .loop .inv .3 k (omega arith) (t .loop-test .taken)) ∙ fits-row _ _ (s .pre .1) k (t .loop-test .taken),
     )
 
 loop-again : tie.Need-loop-again Inv-loop μ-loop

@@ -1,8 +1,8 @@
 -- `line::step::step` meets its contract. Assumes nothing.
-use mathlib.Core.Path.{sym, _∙_}
+use mathlib.Core.Path.{refl, sym, _∙_}
 use native.Mathlib.Omega.{arith}
 use borrow.Author.Tests.{not-true, not-false}
-use Rattle.line.proofs.Turn.Sends.{has-header, holder-within}
+use Rattle.table.proofs.Shaped.Bounds.{bounds}
 use Rattle.line.proofs.Steps.Stepped.{held-row, no-shape, refuses, steps}
 use borrow.Author.Needs.{needs}
 use Rattle.line.proofs.step.step.Statement.{statement}
@@ -15,15 +15,15 @@ returns c =
     no-shape (a .net .now) (a .fault) (sym (s .shape .ensures) ∙ not-true _ (c .before .if1 .taken)) (s .before .before .none .result) _ (c .number .ensures)
 
 slice-read-cases : tie.Need-slice-read-cases
-slice-read-cases c = omega (arith, has-header _ (sym (c .before .before .shape .ensures) ∙ not-false _ (c .before .if1 .left)))
+slice-read-cases c = omega (arith, bounds _ (sym (c .before .before .shape .ensures) ∙ not-false _ (c .before .if1 .left)) _ refl .header)
 
 slice-reshared-read-wide : tie.Need-slice-reshared-read-wide
-slice-reshared-read-wide c = omega (arith, has-header _ (sym (c .before .before .before .shape .ensures) ∙ not-false _ (c .before .before .if1 .left)))
+slice-reshared-read-wide c = omega (arith, bounds _ (sym (c .before .before .before .shape .ensures) ∙ not-false _ (c .before .before .if1 .left)) _ refl .header)
 
 regs-at-requires : tie.Need-regs-at-requires
 regs-at-requires c κs =
     let t = sym (c .before .before .before .before .shape .ensures) ∙ not-false _ (c .before .before .before .if1 .left) in
-    holder-within _ t (held-row _ t) _ (c .wide .ensures .0)
+    bounds _ t _ refl .row _ (omega (arith, held-row _ t, c .wide .ensures .0))
 
 returns-2 : tie.Need-returns-2
 returns-2 c =

@@ -5,25 +5,26 @@ use Prim.Native.Nat.{ℕ}
 use Rattle.card.specs.declared.regs.Regs.{Regs}
 use Rattle.card.specs.Events.{sent}
 use Rattle.line.specs.Traffic.{wentOut, broadcastTurn}
-use Rattle.line.proofs.Turn.Sends.{has-header, within-kept, put-after}
+use Rattle.table.proofs.Shaped.Bounds.{bounds}
+use Rattle.line.proofs.Turn.Sends.{put-after}
 use borrow.Author.Needs.{needs}
 use Rattle.line.proofs.traffic.broadcast.Statement.{statement}
 use Rattle.line.proofs.traffic.broadcast.Tie as tie
 
 rows-requires : tie.Need-rows-requires
-rows-requires c κs = has-header _ (c .before .before .pre .0)
+rows-requires c κs = bounds _ (c .before .before .pre .0) _ refl .header
 
 regs-at-requires : tie.Need-regs-at-requires
 regs-at-requires c κs =
     let s = c .before .before .before in
     let a = s .before .before .before .before .before in
-    within-kept _ (a .pre .0) _ (a .pre .1 .0) _ (s .send .kept .0)
+    bounds _ (a .pre .0) _ (s .send .kept .0) .row _ (a .pre .1 .0)
 
 put-regs-requires : tie.Need-put-regs-requires
 put-regs-requires c κs =
     let s = c .before .before .before .before .before .before in
     let a = s .before .before .before .before .before in
-    within-kept _ (a .pre .0) _ (a .pre .1 .0) _ (s .send .kept .0)
+    bounds _ (a .pre .0) _ (s .send .kept .0) .row _ (a .pre .1 .0)
 
 returns : tie.Need-returns
 unfolding broadcastTurn

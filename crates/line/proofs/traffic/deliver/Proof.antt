@@ -1,6 +1,6 @@
 -- `line::traffic::deliver` meets its contract. Assumes nothing.
 use Rattle.table.proofs.Shaped.Shapes.{shape-within}
-use Rattle.line.proofs.Turn.Sends.{within-kept}
+use Rattle.table.proofs.Shaped.Bounds.{bounds}
 use Rattle.line.proofs.Turn.Outcomes.{ack-is, delivered}
 use borrow.Author.Needs.{needs}
 use Rattle.line.proofs.traffic.deliver.Statement.{statement}
@@ -16,13 +16,13 @@ regs-at-requires-2 : tie.Need-regs-at-requires-2
 regs-at-requires-2 c κs =
     let s = c .before .before .before in
     let a = s .before .before .before .before .before .before .before .before .before in
-    within-kept _ (a .pre .0) _ (a .pre .1 .0) _ (s .send .kept .0)
+    bounds _ (a .pre .0) _ (s .send .kept .0) .row _ (a .pre .1 .0)
 
 put-regs-requires : tie.Need-put-regs-requires
 put-regs-requires c κs =
     let s = c .before .before .before .before .before .before .before in
     let a = s .before .before .before .before .before .before .before .before .before in
-    within-kept _ (a .pre .0) _ (a .pre .1 .0) _ (s .send .kept .0)
+    bounds _ (a .pre .0) _ (s .send .kept .0) .row _ (a .pre .1 .0)
 
 returns : tie.Need-returns
 returns c =

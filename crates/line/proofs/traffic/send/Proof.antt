@@ -1,12 +1,14 @@
 -- `line::traffic::send` meets its contract. Assumes nothing.
+use mathlib.Core.Path.{refl}
 use Rattle.table.proofs.Shaped.Shapes.{shape-within}
-use Rattle.line.proofs.Turn.Sends.{has-header, stamped-is, stamped-bounds, went-fits, went-damaged, went-whole}
+use Rattle.table.proofs.Shaped.Bounds.{bounds}
+use Rattle.line.proofs.Turn.Sends.{stamped-is, stamped-bounds, went-fits, went-damaged, went-whole}
 use borrow.Author.Needs.{needs}
 use Rattle.line.proofs.traffic.send.Statement.{statement}
 use Rattle.line.proofs.traffic.send.Tie as tie
 
 rows-requires : tie.Need-rows-requires
-rows-requires c κs = has-header _ (c .before .before .pre .0)
+rows-requires c κs = bounds _ (c .before .before .pre .0) _ refl .header
 
 part-stamp-end : tie.Need-part-stamp-end
 part-stamp-end c = let a = c .before .before .before in shape-within _ (a .pre .0) _ (a .pre .1 .0)

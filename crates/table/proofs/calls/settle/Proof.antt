@@ -16,28 +16,28 @@ returns-2 c =
     let i = s .before .before .before in
     let o = i .before .before in
     settle-bursts _ _ _ _ _ (o .before .regs-at .ensures) (o .on-line .ensures) (i .before .if1 .taken) (i .if2 .left) _ (s .before .burst .ensures)
-    _ (s .store .ensures) _ (t .turn .ensures)
+    _ (s .put-regs .ensures) _ (t .turn .ensures)
 
 returns-3 : tie.Need-returns-3
 returns-3 c =
     let t = c .before .before in
     let i = t .before .before in
-    let w = i .before in
-    let o = w .before .before .before .before in
-    settle-lost _ _ _ _ _ (o .before .regs-at .ensures) (o .on-line .ensures) (w .before .before .before .if1 .left) _ (w .wide .ensures .0) (i .if3 .taken)
+    let h = i .before in
+    let p = h .before .before in
+    let o = p .before .before .before in
+    settle-lost _ _ _ _ _ (o .before .regs-at .ensures) (o .on-line .ensures) (p .before .before .if1 .left) _ (p .phase .ensures) _ (h .holder .ensures .0) (i .if3 .taken)
     _ (t .turn2 .ensures)
 
 returns-4 : tie.Need-returns-4
 returns-4 c =
-    let w = c .before in
-    let o = w .before .before .before .before in
-    settle-kept _ _ _ _ _ (o .before .regs-at .ensures) (o .on-line .ensures) (w .before .before .before .if1 .left) _ (w .wide .ensures .0) (c .if3 .left)
+    let h = c .before in
+    let p = h .before .before in
+    let o = p .before .before .before in
+    settle-kept _ _ _ _ _ (o .before .regs-at .ensures) (o .on-line .ensures) (p .before .before .if1 .left) _ (p .phase .ensures) _ (h .holder .ensures .0) (c .if3 .left)
 
 pub settle-spec : {M : Type 1} → statement M
 settle-spec =
     tie.close
-    (tie.spec (λ c κs. search needs) (λ c κs. search needs) (λ c. search needs) returns (λ c. search needs)
-    (λ c. search needs) (λ c. search needs) (λ c. search needs) (λ c. search needs) (λ c. search needs)
-    (λ c κs. search needs) (λ c κs. search needs) (λ c κs. search needs) (λ c. search needs) returns-2
-    (λ c. search needs) (λ c. search needs) (λ c κs. search needs) (λ c κs. search needs) (λ c. search needs) returns-3
-    (λ c. search needs) returns-4)
+    (tie.spec (λ c κs. search needs) (λ c κs. search needs) (λ c. search needs) returns (λ c κs. search needs)
+    (λ c κs. search needs) (λ c κs. search needs) (λ c. search needs) returns-2 (λ c κs. search needs)
+    (λ c κs. search needs) (λ c κs. search needs) (λ c. search needs) returns-3 (λ c. search needs) returns-4)
