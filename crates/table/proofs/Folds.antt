@@ -1,13 +1,13 @@
 -- What the tests and searches over the numbers below a bound say.
 -- Assumes nothing.
-use mathlib.Core.Path.{_≡_, refl}
-use mathlib.Core.Bool.{Bool, true, false, _||_}
+use mathlib.Core.Path.{_≡_, refl, sym, _∙_}
+use mathlib.Core.Bool.{Bool, true, false, not, _||_}
 use mathlib.Core.Logic.{⊎-elim}
 use Prim.Native.Nat.{ℕ, zero, suc, _+_, _≤_, _<_}
 use native.Mathlib.Nat.{not-suc-le-zero, le-of-suc-le-suc, eq-or-lt-of-le}
 use native.Mathlib.Numerals.{add-one}
 use native.Mathlib.Omega.{arith}
-use borrow.Author.Tests.{ltb-true, ltb-false, le-ltb}
+use borrow.Author.Tests.{ltb-true, ltb-false, le-ltb, not-true, not-false}
 use lib.Dec.{ltb}
 use Rattle.card.proofs.Bools.{cases, and-left, and-right, or-true, or-left, or-right, pick-of}
 use Rattle.table.specs.Folds.{every, some, seek}
@@ -39,6 +39,25 @@ module _ (f : ℕ → Bool) where
 
   pub every-broken : (k n : ℕ) → k < n → f k ≡ false → every f n ≡ false
   every-broken k n h q = ⊎-elim (λ t. absurd (clash (every-at n k t h) q)) (λ t. t) (cases (every f n))
+
+-- a loop that tests f at each number below n, and stops where it fails: what holds at its head, where it stops, and at its end
+pub record Passed (f : ℕ → Bool) (n k : ℕ) : Type 0 where
+  pub below : k ≤ n
+  pub good : every f k ≡ true
+
+module _ (f : ℕ → Bool) (n : ℕ) where
+  pub passed-none : Passed f n 0
+  passed-none = record { below = omega arith; good = every-none f }
+
+  pub passed-all : (k : ℕ) → Passed f n k → n ≤ k → true ≡ every f n
+  passed-all k p l = let e : k ≡ n = omega arith in sym (rw e at (p .good))
+
+  module _ (k : ℕ) (l : k < n) (b : Bool) (e : b ≡ f k) where
+    pub passed-fails : not b ≡ true → false ≡ every f n
+    passed-fails q = sym (every-broken f k n l (sym e ∙ not-true b q))
+
+    pub passed-more : Passed f n k → not b ≡ false → Passed f n (k + 1)
+    passed-more p q = record { below = omega arith; good = every-more f k (p .good) (sym e ∙ not-false b q) }
 
 -- ---- some
 module _ (f : ℕ → Bool) where

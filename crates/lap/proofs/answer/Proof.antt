@@ -2,7 +2,7 @@
 -- Assumes nothing.
 use native.Mathlib.Omega.{arith}
 use borrow.Author.Needs.{needs}
-use Rattle.desk.proofs.Records.{records-within}
+use Rattle.desk.proofs.Forms.Records.{records-within}
 use Rattle.lap.proofs.answer.Statement.{statement}
 use Rattle.lap.proofs.answer.Tie as tie
 

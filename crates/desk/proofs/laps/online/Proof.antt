@@ -7,7 +7,7 @@ use native.Mathlib.Omega.{arith}
 use borrow.Author.Needs.{needs}
 use Rattle.table.proofs.Online.Nodes.{online-is}
 use Rattle.desk.specs.Lap.{online}
-use Rattle.desk.proofs.Count.{online-none, online-more}
+use Rattle.desk.proofs.Runs.Count.{online-none, online-more}
 use Rattle.desk.proofs.laps.online.Statement.{statement}
 use Rattle.desk.proofs.laps.online.Tie as tie
 

@@ -9,8 +9,8 @@ use borrow.Author.Needs.{needs}
 use Rattle.card.specs.Words.{pick}
 use Rattle.table.proofs.Shaped.Alike.{bytes-rams}
 use Rattle.table.proofs.Shaped.Shapes.{shape-within}
-use Rattle.desk.proofs.Going.{Going}
-use Rattle.desk.proofs.LapLoop.{steps-left, starts, same-size, ends, going-shape, going-small, turn-other, turn-part, turn-passed}
+use Rattle.desk.proofs.Call.Going.{Going}
+use Rattle.desk.proofs.Call.LapLoop.{steps-left, starts, same-size, ends, going-shape, going-small, turn-other, turn-part, turn-passed}
 use Rattle.desk.proofs.laps.run.Statement.{statement}
 use Rattle.desk.proofs.laps.run.Tie as tie
 

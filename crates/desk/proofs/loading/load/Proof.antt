@@ -6,8 +6,8 @@ use native.Mathlib.Omega.{arith}
 use lib.ListN.{length}
 use borrow.Author.Needs.{needs}
 use Rattle.desk.specs.Load.{loadedRows}
-use Rattle.desk.proofs.Records.{record-within}
-use Rattle.desk.proofs.LoadSteps.{rows-none, rows-more, is-unfit, is-refused, at-row, is-loaded}
+use Rattle.desk.proofs.Forms.Records.{record-within}
+use Rattle.desk.proofs.Loads.LoadSteps.{rows-none, rows-more, is-unfit, is-refused, at-row, is-loaded}
 use Rattle.desk.proofs.loading.load.Statement.{statement}
 use Rattle.desk.proofs.loading.load.Tie as tie
 

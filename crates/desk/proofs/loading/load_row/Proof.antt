@@ -8,7 +8,7 @@ use borrow.Author.Needs.{needs}
 use Rattle.table.proofs.calls.write_on.Reads as write-on
 use Rattle.desk.specs.Order.{RECEIVE, LONG}
 use Rattle.desk.specs.Load.{set19, setId, setLong, setReceive, set38, loadedRow}
-use Rattle.desk.proofs.LoadSteps.{at-place, is-made, is-skipped, ready-19, ready-id, ready-long, ready-receive, ready-row}
+use Rattle.desk.proofs.Loads.LoadSteps.{at-place, is-made, is-skipped, ready-19, ready-id, ready-long, ready-receive, ready-row}
 use Rattle.desk.proofs.loading.load_row.Statement.{statement}
 use Rattle.desk.proofs.loading.load_row.Tie as tie
 use Rattle.desk.proofs.loading.load_row.Reads as reads

@@ -4,7 +4,7 @@ use mathlib.Core.Path.{sym}
 use Prim.Native.Nat.{_-_, _<_}
 use native.Mathlib.Omega.{arith}
 use borrow.Author.Needs.{needs}
-use Rattle.desk.proofs.SeenIds.{Seen, begin, ends, twice, more}
+use Rattle.desk.proofs.Forms.SeenIds.{Seen, begin, ends, twice, more}
 use Rattle.desk.proofs.orders.ids_differ.Statement.{statement}
 use Rattle.desk.proofs.orders.ids_differ.Tie as tie
 

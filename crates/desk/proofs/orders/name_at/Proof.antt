@@ -7,8 +7,8 @@ use native.Mathlib.Omega.{arith}
 use lib.ListN.{length, drop}
 use borrow.Author.Needs.{needs}
 use Rattle.desk.specs.Order.{recordBytes, spaces}
-use Rattle.desk.proofs.Records.{record-within}
-use Rattle.desk.proofs.Names.{spaces-end, trim-none, name-ends, name-shorter, name-not, name-is}
+use Rattle.desk.proofs.Forms.Records.{record-within}
+use Rattle.desk.proofs.Forms.Names.{spaces-end, trim-none, name-ends, name-shorter, name-not, name-is}
 use Rattle.desk.proofs.orders.name_at.Statement.{statement}
 use Rattle.desk.proofs.orders.name_at.Tie as tie
 

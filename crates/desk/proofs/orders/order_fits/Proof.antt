@@ -1,7 +1,7 @@
 -- `desk::orders::order_fits` meets its contract. Assumes nothing.
 use borrow.Author.Needs.{needs}
 use Rattle.desk.specs.Order.{orderFits}
-use Rattle.desk.proofs.Records.{records-within}
+use Rattle.desk.proofs.Forms.Records.{records-within}
 use Rattle.desk.proofs.orders.order_fits.Statement.{statement}
 use Rattle.desk.proofs.orders.order_fits.Tie as tie
 

@@ -6,7 +6,7 @@ use native.Mathlib.Omega.{arith}
 use lib.ListN.{length, drop}
 use borrow.Author.Needs.{needs}
 use Rattle.desk.specs.Order.{printables}
-use Rattle.desk.proofs.Names.{printables-here, printables-not, printables-end}
+use Rattle.desk.proofs.Forms.Names.{printables-here, printables-not, printables-end}
 use Rattle.desk.proofs.orders.printable.Statement.{statement}
 use Rattle.desk.proofs.orders.printable.Tie as tie
 

@@ -2,7 +2,7 @@
 use mathlib.Core.Path.{_∙_, ap}
 use lib.ListN.{length}
 use borrow.Author.Needs.{needs}
-use Rattle.desk.proofs.Records.{mid-record, length-recordAt}
+use Rattle.desk.proofs.Forms.Records.{mid-record, length-recordAt}
 use Rattle.desk.proofs.orders.record_at.Statement.{statement}
 use Rattle.desk.proofs.orders.record_at.Tie as tie
 

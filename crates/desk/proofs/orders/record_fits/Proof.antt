@@ -2,7 +2,7 @@
 use mathlib.Core.Path.{_∙_, ap}
 use borrow.Author.Needs.{needs}
 use Rattle.desk.specs.Order.{printables, recordFits}
-use Rattle.desk.proofs.Names.{mid-name}
+use Rattle.desk.proofs.Forms.Names.{mid-name}
 use Rattle.desk.proofs.orders.record_fits.Statement.{statement}
 use Rattle.desk.proofs.orders.record_fits.Tie as tie
 

@@ -14,18 +14,18 @@ use Rattle.table.proofs.Shaped.Alike.{bytes-rams}
 use Rattle.line.proofs.Steps.View.{Rams}
 use Rattle.desk.specs.Lap.{nodes}
 use Rattle.desk.specs.Demand.{Call, table, steps, answersOf, Throughout, idsFrom, idsOnLine, LapOf, Demand3}
-use Rattle.desk.proofs.Ring as ring
-use Rattle.desk.proofs.Ring.{Took, Spoke, Ring, Runs, stop, go, calls, roster}
-use Rattle.desk.proofs.Roster.{takes, invites}
-use Rattle.desk.proofs.Count.{onFirst}
-use Rattle.desk.proofs.FirstLap.{lap-takes, lap-counts}
-use Rattle.desk.proofs.LaterLap.{settled, settledRing, settled-counts, settled-takes, later}
-use Rattle.desk.proofs.Steps.{invitations-seen, takers-seen}
-use Rattle.desk.proofs.Shows.{on, Shows}
-use Rattle.desk.proofs.Back as back
-use Rattle.desk.proofs.InRows.{by-nodes}
-use Rattle.desk.proofs.History.{Went, went}
-use Rattle.desk.proofs.Waits.{highestId, beginning, waits-went, waits}
+use Rattle.desk.proofs.ById.Ring as ring
+use Rattle.desk.proofs.ById.Ring.{Took, Spoke, Ring, Runs, stop, go, calls, roster}
+use Rattle.desk.proofs.ById.Roster.{takes, invites}
+use Rattle.desk.proofs.Runs.Count.{onFirst}
+use Rattle.desk.proofs.ById.FirstLap.{lap-takes, lap-counts}
+use Rattle.desk.proofs.ById.LaterLap.{settled, settledRing, settled-counts, settled-takes, later}
+use Rattle.desk.proofs.Runs.Steps.{invitations-seen, takers-seen}
+use Rattle.desk.proofs.Runs.Shows.{on, Shows}
+use Rattle.desk.proofs.Runs.Back as back
+use Rattle.desk.proofs.Runs.InRows.{by-nodes}
+use Rattle.desk.proofs.Runs.History.{Went, went}
+use Rattle.desk.proofs.Runs.Waits.{highestId, beginning, waits-went, waits}
 
 -- the IDs on line are the roster
 ids-calls : (net : List ℕ) (k a : ℕ) → a + k ≤ 256 → idsFrom net a k ≡ calls (onFirst net (rows net)) a k

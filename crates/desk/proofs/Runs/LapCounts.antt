@@ -10,13 +10,13 @@ use Rattle.table.specs.Network.{phase, LOST, shape}
 use Rattle.desk.specs.declared.laps.Taker.{Taker}
 use Rattle.desk.specs.Lap.{nodes, answers, invitations, takers, back, lapSteps}
 use Rattle.line.proofs.Steps.View.{Rams}
-use Rattle.desk.proofs.Ring.{calls, roster}
-use Rattle.desk.proofs.Roster.{takes, invites, roster-is}
-use Rattle.desk.proofs.FirstLap.{before, lap-takes, lap-counts}
-use Rattle.desk.proofs.Steps.{invitations-seen, takers-seen}
-use Rattle.desk.proofs.Hops.{hops, gaps, takers-hops, hops-first}
-use Rattle.desk.proofs.Shows.{on}
-use Rattle.desk.proofs.Back as back
+use Rattle.desk.proofs.ById.Ring.{calls, roster}
+use Rattle.desk.proofs.ById.Roster.{takes, invites, roster-is}
+use Rattle.desk.proofs.ById.FirstLap.{before, lap-takes, lap-counts}
+use Rattle.desk.proofs.Runs.Steps.{invitations-seen, takers-seen}
+use Rattle.desk.proofs.Runs.Hops.{hops, gaps, takers-hops, hops-first}
+use Rattle.desk.proofs.Runs.Shows.{on}
+use Rattle.desk.proofs.Runs.Back as back
 
 module _ (net : List ℕ) (s : shape net ≡ true) (b : Rams net) (lost : phase net ≡ LOST) (two : 2 ≤ nodes net) where
   -- each node on line has an entry, lowest ID first

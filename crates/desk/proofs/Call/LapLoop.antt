@@ -20,12 +20,12 @@ use Rattle.table.proofs.Shaped.Shapes.{shape-within, shape-rows, shape-length}
 use Rattle.line.proofs.Steps.View.{Rams, any-step}
 use Rattle.desk.specs.declared.laps.Taker.{Taker}
 use Rattle.desk.specs.Lap.{nodes, after, answers, invitation, passed, invitations, nobody, takers, lapSteps}
-use Rattle.desk.proofs.Steps.{after-more}
-use Rattle.desk.proofs.Back.{start, first-holder}
-use Rattle.desk.proofs.LapCounts.{lap-entries}
-use Rattle.desk.proofs.Walking.{alikes}
-use Rattle.desk.proofs.Course.{Course, left, left-is, course, same-count, lap-after, lap-invitations, lap-takers}
-use Rattle.desk.proofs.Going.{Going, passed-invites, begin, step-other, other-next, space, small, below, step-passed, passed-next}
+use Rattle.desk.proofs.Runs.Steps.{after-more}
+use Rattle.desk.proofs.Runs.Back.{start, first-holder}
+use Rattle.desk.proofs.Runs.LapCounts.{lap-entries}
+use Rattle.desk.proofs.Call.Walking.{alikes}
+use Rattle.desk.proofs.Call.Course.{Course, left, left-is, course, same-count, lap-after, lap-invitations, lap-takers}
+use Rattle.desk.proofs.Call.Going.{Going, passed-invites, begin, step-other, other-next, space, small, below, step-passed, passed-next}
 
 -- what the code's step leaves is the step's
 abbrev pub Stepped : List ℕ → Answer → List ℕ → Type 0

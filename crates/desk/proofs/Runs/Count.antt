@@ -17,8 +17,8 @@ use Rattle.table.specs.Network.{rows, regsAt, onLineAt, isNode, topId}
 use Rattle.table.proofs.Folds.{clash, some-none, some-more, some-not}
 use Rattle.table.proofs.Online.Nodes.{topId-more, node-of, node-online, node-id}
 use Rattle.desk.specs.Lap.{online}
-use Rattle.desk.proofs.Ring.{calls, roster}
-use Rattle.desk.proofs.Roster.{calls-none}
+use Rattle.desk.proofs.ById.Ring.{calls, roster}
+use Rattle.desk.proofs.ById.Roster.{calls-none}
 
 -- ---- two tests of IDs that differ at z alone
 module _ (p q : ℕ → Bool) (z : ℕ) (yes′ : p z ≡ true) (no′ : q z ≡ false) (same : (x : ℕ) → x ≢ z → p x ≡ q x) where

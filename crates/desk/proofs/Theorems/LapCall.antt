@@ -15,10 +15,10 @@ use Rattle.table.proofs.Access.Calm.{alike-nodes}
 use Rattle.desk.specs.Lap.{nodes, after, answers, lapSteps, lapNumber, lapped, netAfterLap, lapTakers, takers}
 use Rattle.desk.specs.Demand.{Call, Step, Ready, table, steps, answersOf, Throughout, LapOf}
 use Rattle.desk.specs.Promises.{TheLap, LapCallIsTheLap}
-use Rattle.desk.proofs.LapNumber.{lap-shape, lap-lost, lap-two}
-use Rattle.desk.proofs.Back.{lap-steps}
-use Rattle.desk.proofs.LapCounts.{lap-entries}
-use Rattle.desk.proofs.Demanded.{demand3}
+use Rattle.desk.proofs.Call.LapNumber.{lap-shape, lap-lost, lap-two}
+use Rattle.desk.proofs.Runs.Back.{lap-steps}
+use Rattle.desk.proofs.Runs.LapCounts.{lap-entries}
+use Rattle.desk.proofs.Theorems.Demanded.{demand3}
 
 -- ---- k fault-free steps, as calls of a host, and other calls after them
 unfoldable stepCalls : ℕ → List Call → List Call

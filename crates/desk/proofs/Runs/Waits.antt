@@ -15,13 +15,13 @@ use Rattle.line.proofs.Steps.View.{Rams, alike-same, lost-step}
 use Rattle.desk.specs.Lap.{nodes, passed}
 use Rattle.desk.specs.Demand.{Call, Step, Read, Write, Reset, Look, table, steps, answersOf, Throughout}
 use Rattle.table.proofs.Access.Calm.{Calm, calm-read, calm-write, calm-reset, alike-nodes, same-nodes-then}
-use Rattle.desk.proofs.Ring as ring
-use Rattle.desk.proofs.Ring.{Spoke, Ring, Runs}
-use Rattle.desk.proofs.Count.{top-above}
-use Rattle.desk.proofs.Steps.{seen}
-use Rattle.desk.proofs.Shows.{on, Shows}
-use Rattle.desk.proofs.Back as back
-use Rattle.desk.proofs.History.{nodes-between, Went, went}
+use Rattle.desk.proofs.ById.Ring as ring
+use Rattle.desk.proofs.ById.Ring.{Spoke, Ring, Runs}
+use Rattle.desk.proofs.Runs.Count.{top-above}
+use Rattle.desk.proofs.Runs.Steps.{seen}
+use Rattle.desk.proofs.Runs.Shows.{on, Shows}
+use Rattle.desk.proofs.Runs.Back as back
+use Rattle.desk.proofs.Runs.History.{nodes-between, Went, went}
 
 module _ (start : List ℕ) (s : shape start ≡ true) (b : Rams start) (lost : phase start ≡ LOST) (two : 2 ≤ nodes start) where
   pub record Waits (now : List ℕ) : Type 0 where

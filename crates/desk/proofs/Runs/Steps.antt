@@ -14,8 +14,8 @@ use Rattle.table.specs.Network.{regsAt}
 use Rattle.line.specs.Step.{step, answerValue}
 use Rattle.desk.specs.declared.laps.Taker.{Taker}
 use Rattle.desk.specs.Lap.{after, answers, invitation, passed, invitations, entry, takers}
-use Rattle.desk.proofs.Ring.{Call, Took, Missed, Spoke}
-use Rattle.desk.proofs.Roster.{takes, invites}
+use Rattle.desk.proofs.ById.Ring.{Call, Took, Missed, Spoke}
+use Rattle.desk.proofs.ById.Roster.{takes, invites}
 
 -- ---- one step more
 pub after-none : (net : List ℕ) → after 0 net ≡ net

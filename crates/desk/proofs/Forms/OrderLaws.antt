@@ -13,7 +13,7 @@ use Rattle.card.proofs.Bools.{cases, and-left, and-right, holds}
 use Rattle.table.specs.Network.{rowLimit}
 use Rattle.table.proofs.Folds.{clash, every-at, every-of, some-fails, some-not}
 use Rattle.desk.specs.Order.{recordBytes, records, recordAt, mark, idOf, flagsOf, nameOf, printables, recordFits, recordsFit, idAt, idsDiffer, orderFits}
-use Rattle.desk.proofs.SeenIds.{first}
+use Rattle.desk.proofs.Forms.SeenIds.{first}
 
 -- ---- a record by itself: its tests
 abbrev tests : List ℕ → List Bool

@@ -13,8 +13,8 @@ use Rattle.line.specs.declared.step.Answer.the-variants.{Refused, Quiet, Recove
 use Rattle.table.specs.Network.{regsAt}
 use Rattle.desk.specs.declared.laps.Taker.{Taker}
 use Rattle.desk.specs.Lap.{takers}
-use Rattle.desk.proofs.Ring.{Call, Took, Missed, Spoke, calls, script}
-use Rattle.desk.proofs.Steps.{seen}
+use Rattle.desk.proofs.ById.Ring.{Call, Took, Missed, Spoke, calls, script}
+use Rattle.desk.proofs.Runs.Steps.{seen}
 
 -- each ID that takes the token, with the invitations since the holder before, c of them sent already
 abbrev pub hops : ℕ → List Call → List (ℕ × ℕ)

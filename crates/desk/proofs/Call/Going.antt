@@ -21,9 +21,9 @@ use Rattle.line.specs.Step.{step, answerValue}
 use Rattle.table.proofs.Folds.{clash}
 use Rattle.desk.specs.declared.laps.Taker.{Taker}
 use Rattle.desk.specs.Lap.{nodes, after, answers, invitation, passed, invitations, entry, nobody, takers}
-use Rattle.desk.proofs.Steps.{after-none, after-more, answers-none, answers-more, since, since-none, since-more, invitations-none, invitations-more, takers-none, takers-more}
-use Rattle.desk.proofs.Walking.{alikes, invitations-most, since-most, entries}
-use Rattle.desk.proofs.Course.{backTo, passed-below, Course, nodes-most}
+use Rattle.desk.proofs.Runs.Steps.{after-none, after-more, answers-none, answers-more, since, since-none, since-more, invitations-none, invitations-more, takers-none, takers-more}
+use Rattle.desk.proofs.Call.Walking.{alikes, invitations-most, since-most, entries}
+use Rattle.desk.proofs.Call.Course.{backTo, passed-below, Course, nodes-most}
 
 pub passed-invites : (a : Answer) → passed a ≡ true → invitation a ≡ true
 passed-invites (Refused n) e = e

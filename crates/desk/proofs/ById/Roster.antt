@@ -7,8 +7,8 @@ use Prim.Native.Nat.{ℕ, zero, suc, _+_, _*_, _-_, _%_, _<_, _≤_}
 use native.Mathlib.Nat.{add-zero, zero-add, add-suc, suc-add}
 use native.Mathlib.Omega.{arith}
 use lib.ListN.{length}
-use Rattle.desk.proofs.Ring.{Call, Took, Missed, Spoke, calls, roster, script}
-use Rattle.desk.proofs.Scan.{last}
+use Rattle.desk.proofs.ById.Ring.{Call, Took, Missed, Spoke, calls, roster, script}
+use Rattle.desk.proofs.ById.Scan.{last}
 
 -- who takes the token, in the order of taking; the invitations
 abbrev pub takes : List Call → List ℕ

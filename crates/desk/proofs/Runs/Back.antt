@@ -17,14 +17,14 @@ use Rattle.table.proofs.Online.Nodes.{node-online, node-id, nodeOf-found, onlin
 use Rattle.line.proofs.Steps.Holders.{highest-held}
 use Rattle.desk.specs.Lap.{nodes, after, answers, passed, firstHolder, back, lapSteps}
 use Rattle.line.proofs.Steps.View.{Rams, AfterLost, lost-step}
-use Rattle.desk.proofs.Ring.{Call, Took, Spoke, roster}
-use Rattle.desk.proofs.Count.{Ids, some-online, roster-online, top-above}
-use Rattle.desk.proofs.FirstLap.{other, before, Lap, lap, never-before, lap-counts}
-use Rattle.desk.proofs.Steps.{after-none, after-first, after-more, answers-first, answers-more, seen}
-use Rattle.desk.proofs.Told.{never-at, not-to, took-passed}
+use Rattle.desk.proofs.ById.Ring.{Call, Took, Spoke, roster}
+use Rattle.desk.proofs.Runs.Count.{Ids, some-online, roster-online, top-above}
+use Rattle.desk.proofs.ById.FirstLap.{other, before, Lap, lap, never-before, lap-counts}
+use Rattle.desk.proofs.Runs.Steps.{after-none, after-first, after-more, answers-first, answers-more, seen}
+use Rattle.desk.proofs.Runs.Told.{never-at, not-to, took-passed}
 use Rattle.table.proofs.Access.Calm.{alike-nodes}
-use Rattle.desk.proofs.Shows.{on, row-on, Shows}
-use Rattle.desk.proofs.Follow.{Followed, follow, Run, runs}
+use Rattle.desk.proofs.Runs.Shows.{on, row-on, Shows}
+use Rattle.desk.proofs.Runs.Follow.{Followed, follow, Run, runs}
 
 module _ (net : List ℕ) (s : shape net ≡ true) (b : Rams net) (lost : phase net ≡ LOST) (two : 2 ≤ nodes net) where
   pub ids : Ids net (rows net)

@@ -13,12 +13,12 @@ use Rattle.line.specs.Step.{step}
 use Rattle.line.proofs.Steps.View.{Rams}
 use Rattle.desk.specs.Demand.{Call, Step, Read, Write, Reset, Look, called, table, steps, answersOf, Throughout}
 use Rattle.table.proofs.Access.Calm.{Calm, calm-read, calm-write, calm-reset, calm-same, same-nodes-then}
-use Rattle.desk.proofs.Ring as ring
-use Rattle.desk.proofs.Ring.{Ring, turn, Runs, stop, go}
-use Rattle.desk.proofs.Steps.{seen}
-use Rattle.desk.proofs.Shows.{on, Shows}
-use Rattle.desk.proofs.Follow.{Followed, follow}
-use Rattle.desk.proofs.InRows.{ToNodes}
+use Rattle.desk.proofs.ById.Ring as ring
+use Rattle.desk.proofs.ById.Ring.{Ring, turn, Runs, stop, go}
+use Rattle.desk.proofs.Runs.Steps.{seen}
+use Rattle.desk.proofs.Runs.Shows.{on, Shows}
+use Rattle.desk.proofs.Runs.Follow.{Followed, follow}
+use Rattle.desk.proofs.Runs.InRows.{ToNodes}
 
 -- the nodes of two networks are those of a third
 pub nodes-between : (start net new : List ℕ) → SameNodes start net → SameNodes start new → SameNodes net new

@@ -26,8 +26,8 @@ use Rattle.table.proofs.Access.Fresh.{fresh-room, fresh-net, header-fresh, rowA
 use Rattle.table.proofs.Access.CallsKeep.{fresh-keeps}
 use Rattle.desk.specs.Order.{records, recordAt, idAt, flagsOf, orderFits}
 use Rattle.desk.specs.Load.{loadedRow, loadedRows, loadNumber, netAfterLoad}
-use Rattle.desk.proofs.OrderLaws.{order-records, order-id, order-differ}
-use Rattle.desk.proofs.LoadRow.{Unrefused, row-unrefused, row-loaded, row-on}
+use Rattle.desk.proofs.Forms.OrderLaws.{order-records, order-id, order-differ}
+use Rattle.desk.proofs.Loads.LoadRow.{Unrefused, row-unrefused, row-loaded, row-on}
 
 abbrev OnLine : List ℕ → ℕ → ℕ → Type 0
 OnLine net k i = (onLineAt net k ≡ true) × (regsAt net k .id ≡ i)

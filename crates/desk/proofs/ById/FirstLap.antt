@@ -9,9 +9,9 @@ use native.Mathlib.Omega.{arith}
 use lib.Dec.{eqb}
 use lib.ListN.{length, length-append}
 use borrow.Author.Tests.{ne-eqb}
-use Rattle.desk.proofs.Ring.{Call, Took, Missed, Spoke, Ring, next, upd, turn, Runs, go, calls, roster, script}
-use Rattle.desk.proofs.Scan.{last, Linked, Off, off-later, off-here, own, hear, miss, scan, Scanned, Ready, upd-same, upd-other}
-use Rattle.desk.proofs.Roster.{takes, invites, takes-append, invites-append, script-takes, script-counts, rotate, roster-is, last-any}
+use Rattle.desk.proofs.ById.Ring.{Call, Took, Missed, Spoke, Ring, next, upd, turn, Runs, go, calls, roster, script}
+use Rattle.desk.proofs.ById.Scan.{last, Linked, Off, off-later, off-here, own, hear, miss, scan, Scanned, Ready, upd-same, upd-other}
+use Rattle.desk.proofs.ById.Roster.{takes, invites, takes-append, invites-append, script-takes, script-counts, rotate, roster-is, last-any}
 
 -- the call is not that h took the token
 abbrev pub other : ℕ → Call → Bool

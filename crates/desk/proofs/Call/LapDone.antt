@@ -12,8 +12,8 @@ use Rattle.table.proofs.Shaped.Shapes.{shape-rows}
 use Rattle.desk.specs.declared.laps.Taker.{Taker}
 use Rattle.desk.specs.declared.laps.Lapped.{Lapped}
 use Rattle.desk.specs.Lap.{nodes, after, answers, invitations, takers, lapSteps, lapNumber, lapped, netAfterLap, lapTakers, nobody, Walks}
-use Rattle.desk.proofs.Count.{online-most}
-use Rattle.desk.proofs.LapNumber.{lap-shape, lap-room}
+use Rattle.desk.proofs.Runs.Count.{online-most}
+use Rattle.desk.proofs.Call.LapNumber.{lap-shape, lap-room}
 
 module _ (net : List ℕ) (room k : ℕ) (e : k ≡ lapNumber net room) where
   pub refused : (k ≡ 0 → ⊥) → (list : List Taker) → list ≡ nobody → Walks net room 0 list (record { number = k; total = 0 }) net

@@ -19,11 +19,11 @@ use Rattle.table.proofs.Shaped.Shapes.{shape-rows}
 use Rattle.line.proofs.Steps.View.{Rams, Alike, AfterLost, passed-row}
 use Rattle.desk.specs.declared.laps.Taker.{Taker}
 use Rattle.desk.specs.Lap.{online, nodes, after, answers, invitation, passed, invitations, entry, takers, firstHolder, back, lapSteps}
-use Rattle.desk.proofs.Steps.{after-first, answers-none, answers-first, answers-more, since, takers-none, takers-more}
-use Rattle.desk.proofs.Count.{online-most}
-use Rattle.desk.proofs.Back.{start, first-holder, not-back, is-back, lap-steps}
-use Rattle.desk.proofs.LapCounts.{lap-entries}
-use Rattle.desk.proofs.Walking.{alikes, after-add, entries, few}
+use Rattle.desk.proofs.Runs.Steps.{after-first, answers-none, answers-first, answers-more, since, takers-none, takers-more}
+use Rattle.desk.proofs.Runs.Count.{online-most}
+use Rattle.desk.proofs.Runs.Back.{start, first-holder, not-back, is-back, lap-steps}
+use Rattle.desk.proofs.Runs.LapCounts.{lap-entries}
+use Rattle.desk.proofs.Call.Walking.{alikes, after-add, entries, few}
 
 -- step k from this network passes the token to the row q
 abbrev pub backTo : ℕ → List ℕ → ℕ → Bool

@@ -15,11 +15,11 @@ use Rattle.line.specs.Step.{step, invited, taker, answerValue}
 use Rattle.table.proofs.Shaped.Shapes.{shape-ids}
 use Rattle.desk.specs.Lap.{after, answers, passed}
 use Rattle.line.proofs.Steps.View.{Alike, alike-then, taker-step, AfterNone, none-step, held-step}
-use Rattle.desk.proofs.Ring.{Call, Took, Missed, Spoke, Ring, next, upd, turn, Runs, stop, go}
-use Rattle.desk.proofs.Scan.{upd-same, upd-other}
-use Rattle.desk.proofs.Steps.{after-none, after-first, answers-none, answers-first, seen}
+use Rattle.desk.proofs.ById.Ring.{Call, Took, Missed, Spoke, Ring, next, upd, turn, Runs, stop, go}
+use Rattle.desk.proofs.ById.Scan.{upd-same, upd-other}
+use Rattle.desk.proofs.Runs.Steps.{after-none, after-first, answers-none, answers-first, seen}
 use Rattle.table.proofs.Access.Calm.{alike-nodes, same-nodes-then}
-use Rattle.desk.proofs.Shows.{on, phaseOf, Shows, invites, took-row, took-on, took-id, took-heeds, missed}
+use Rattle.desk.proofs.Runs.Shows.{on, phaseOf, Shows, invites, took-row, took-on, took-id, took-heeds, missed}
 
 module _ (net : List ℕ) (s : shape net ≡ true) where
   -- ---- one step: what it tells, and what the network after it shows

@@ -16,9 +16,9 @@ use Rattle.table.specs.Network.{regsAt}
 use Rattle.line.specs.Step.{step, answerValue}
 use Rattle.table.proofs.Folds.{clash}
 use Rattle.desk.specs.Lap.{after, answers, passed}
-use Rattle.desk.proofs.Ring.{Call, Spoke}
-use Rattle.desk.proofs.FirstLap.{other, Never}
-use Rattle.desk.proofs.Steps.{after-none, after-first, answers-first, seen}
+use Rattle.desk.proofs.ById.Ring.{Call, Spoke}
+use Rattle.desk.proofs.ById.FirstLap.{other, Never}
+use Rattle.desk.proofs.Runs.Steps.{after-none, after-first, answers-first, seen}
 
 abbrev head : List Call → Call
 head [] = Spoke

@@ -10,9 +10,9 @@ use Rattle.table.proofs.Shaped.Alike.{bytes-rams}
 use Rattle.desk.specs.Lap.{nodes, answers, invitations, takers, lapSteps}
 use Rattle.desk.specs.Demand.{Ready, idsOnLine}
 use Rattle.desk.specs.Sums.{hopOf, Sums}
-use Rattle.desk.proofs.Hops.{gaps}
-use Rattle.desk.proofs.LapCounts.{lap-total, lap-hops}
-use Rattle.desk.proofs.Demanded.{ids-roster}
+use Rattle.desk.proofs.Runs.Hops.{gaps}
+use Rattle.desk.proofs.Runs.LapCounts.{lap-total, lap-hops}
+use Rattle.desk.proofs.Theorems.Demanded.{ids-roster}
 
 module _ (net : List ℕ) (r : Ready net) where
   hop : topId net (rows net) ≡ 200 → (l : List ℕ) → idsOnLine net ≡ 7 ∷ l

@@ -21,7 +21,7 @@ use Rattle.table.proofs.Access.CallsKeep.{write-keeps, fresh-keeps}
 use Rattle.table.proofs.Access.Beside.{beside-count, write-beside}
 use Rattle.desk.specs.Order.{records, recordAt, idAt, flagsOf, RECEIVE, LONG, orderFits}
 use Rattle.desk.specs.Load.{set19, setId, setLong, setReceive, loadedRow, loadedRows, loadNumber, netAfterLoad}
-use Rattle.desk.proofs.OrderLaws.{order-records}
+use Rattle.desk.proofs.Forms.OrderLaws.{order-records}
 
 -- `new` may be written where `net` may
 pub record Ready (net new : List ℕ) : Type 0 where

@@ -16,9 +16,9 @@ use Rattle.line.specs.Step.{step}
 use Rattle.desk.specs.declared.laps.Taker.{Taker}
 use Rattle.desk.specs.Lap.{nodes, after, answers, invitation, passed, invitations, entry, takers, back, lapSteps}
 use Rattle.line.proofs.Steps.View.{Rams, Alike, alike-same, alike-then, any-step}
-use Rattle.desk.proofs.Steps.{after-none, after-more, answers-none, answers-more, since, since-none, since-more, invitations-none, invitations-more, takers-more}
-use Rattle.desk.proofs.Back.{is-back, lap-steps}
-use Rattle.desk.proofs.LapCounts.{lap-entries}
+use Rattle.desk.proofs.Runs.Steps.{after-none, after-more, answers-none, answers-more, since, since-none, since-more, invitations-none, invitations-more, takers-more}
+use Rattle.desk.proofs.Runs.Back.{is-back, lap-steps}
+use Rattle.desk.proofs.Runs.LapCounts.{lap-entries}
 
 -- the network is well formed, with the same nodes on line
 pub alikes : (net : List ℕ) → shape net ≡ true → Rams net → (k : ℕ) → Alike net (after k net)

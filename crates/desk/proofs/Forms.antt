@@ -1,0 +1,5 @@
+-- The order form: its records, IDs and names.
+pub mod Records
+pub mod Names
+pub mod SeenIds
+pub mod OrderLaws
