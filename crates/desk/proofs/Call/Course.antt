@@ -12,7 +12,7 @@ use Rattle.card.proofs.Bools.{pick-of}
 use Rattle.line.specs.declared.step.Answer.{Answer}
 use Rattle.line.specs.declared.step.Answer.the-variants.{Refused, Quiet, Recovered, Passed, Unanswered, TokenLost, Held}
 use Rattle.table.specs.Folds.{seek}
-use Rattle.table.specs.Network.{rowLimit, rows, phase, LOST, regsAt, onLineAt, shape}
+use Rattle.table.specs.Network.{rowLimit, rows, phase, LOST, onLineAt, shape}
 use Rattle.line.specs.Step.{step, answerValue}
 use Rattle.table.proofs.Folds.{seek-is}
 use Rattle.table.proofs.Shaped.Shapes.{shape-rows}
@@ -21,8 +21,7 @@ use Rattle.desk.specs.declared.laps.Taker.{Taker}
 use Rattle.desk.specs.Lap.{online, nodes, after, answers, invitation, passed, invitations, entry, takers, firstHolder, back, lapSteps}
 use Rattle.desk.proofs.Runs.Steps.{after-first, answers-none, answers-first, answers-more, since, takers-none, takers-more}
 use Rattle.desk.proofs.Runs.Count.{online-most}
-use Rattle.desk.proofs.Runs.Back.{start, first-holder, not-back, is-back, lap-steps}
-use Rattle.desk.proofs.Runs.LapCounts.{lap-entries}
+use Rattle.desk.proofs.Runs.Back.{start, not-back, is-back, lap-steps}
 use Rattle.desk.proofs.Call.Walking.{alikes, after-add, entries, few}
 
 -- step k from this network passes the token to the row q
@@ -73,7 +72,7 @@ same-takers net now a (suc k) =
     let ids : passed x ≡ true → entry net (answerValue x) c ≡ entry now (answerValue x) c
     = λ p. let l = passed-below (after k now) (w .fits) (w .rams) x refl p in
     same-entry net now a (answerValue x) c (omega (arith, w .count, a .count)) in
-    rw (answers-more, takers-more, takers-more, same-takers net now a k)
+    rw (answers-more, takers-more net (answers k now) 0 x, takers-more now (answers k now) 0 x, same-takers net now a k)
     (pick-of (λ (t : List Taker). takers now 0 (answers k now) ++ pick (passed x) (entry net (answerValue x) c ∷ []) [] ≡ takers now 0 (answers k now) ++ t) (passed x)
     (λ p. rw p (ap (λ (t : Taker). takers now 0 (answers k now) ++ (t ∷ [])) (ids p))) (λ p. rw p))
 
@@ -122,10 +121,10 @@ module _ (net : List ℕ) (s : shape net ≡ true) (b : Rams net) (lost : phase 
   course first e = record {
     fits = begun .alike .fits;
     rams = begun .alike .rams;
-    not-yet = λ k l. rw e (rw after-first at (not-back net s b lost two (suc k) (omega (arith, same-count))));
+    not-yet = λ k l. rw e (rw (after-first k net) at (not-back net s b lost two (suc k) (omega (arith, same-count))));
     again =
         let m : 255 + 2 * nodes net ≡ suc (254 + 2 * nodes recovered) = omega (arith, same-count) in
-        rw e (rw (m, after-first) at (is-back net s b lost two));
+        rw e (rw (m, after-first (254 + 2 * nodes recovered) net) at (is-back net s b lost two));
     few = λ k l. omega (arith, same-count, entries-same k, few net s b lost two (suc k) (omega (arith, same-count)));
   }
 

@@ -169,8 +169,8 @@ module _ (net : List ℕ) (first : ℕ) (now : List ℕ) (list : List Taker) (n 
       k = suc (v .k);
       now-is = there;
       room = length-set list n taker ∙ v .room;
-      unused = rw add-one (past-set n list taker ∙ past n list nobody (v .unused));
-      listed = rw (add-one, take-suc-set list n taker (omega (arith, v .room, space)), v .listed, more);
+      unused = rw (add-one n) (past-set n list taker ∙ past n list nobody (v .unused));
+      listed = rw (add-one n, take-suc-set list n taker (omega (arith, v .room, space)), v .listed, more);
       many = rw (more, length-append, ← (v .many));
       recent-is = rw (answered, since-more, p);
       total-is = rw (passed-invites a p) at total-next;

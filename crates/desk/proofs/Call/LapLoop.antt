@@ -3,11 +3,10 @@
 use mathlib.Core.Path.{_≡_, refl, sym, ap, _∙_}
 use mathlib.Core.Bool.{Bool, true, false, not, true≢false}
 use mathlib.Core.List.{List}
-use Prim.Native.Nat.{ℕ, zero, suc, _+_, _*_, _-_, _<_, _≤_}
+use Prim.Native.Nat.{ℕ, suc, _+_, _*_, _-_, _<_, _≤_}
 use native.Mathlib.Omega.{arith}
 use lib.Dec.{eqb}
 use lib.ListN.{length, take, drop, set}
-use borrow.Author.Tests.{not-true}
 use Rattle.card.specs.declared.regs.Regs.{Regs}
 use Rattle.card.specs.Words.{pick}
 use Rattle.line.specs.declared.step.Answer.{Answer}
@@ -24,7 +23,7 @@ use Rattle.desk.proofs.Runs.Steps.{after-more}
 use Rattle.desk.proofs.Runs.Back.{start, first-holder}
 use Rattle.desk.proofs.Runs.LapCounts.{lap-entries}
 use Rattle.desk.proofs.Call.Walking.{alikes}
-use Rattle.desk.proofs.Call.Course.{Course, left, left-is, course, same-count, lap-after, lap-invitations, lap-takers}
+use Rattle.desk.proofs.Call.Course.{left, left-is, course, lap-after, lap-invitations, lap-takers}
 use Rattle.desk.proofs.Call.Going.{Going, passed-invites, begin, step-other, other-next, space, small, below, step-passed, passed-next}
 
 -- what the code's step leaves is the step's

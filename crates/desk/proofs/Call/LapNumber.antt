@@ -1,16 +1,15 @@
 -- The refusals of the lap call, put together from what the tests give.
 -- Assumes nothing.
-use mathlib.Core.Path.{_≡_, refl, sym, ap, _∙_}
+use mathlib.Core.Path.{_≡_, sym, _∙_}
 use mathlib.Core.Bool.{Bool, true, false, not}
 use mathlib.Core.List.{List}
 use Prim.Native.Nat.{ℕ, _<_, _≤_}
-use native.Mathlib.Omega.{arith}
 use lib.Dec.{eqb, ltb, lit<}
 use lib.ListN.{getD}
 use borrow.Author.Tests.{not-true, not-false, eqb-true, ltb-false}
 use Rattle.card.specs.declared.numbers.Cases.{Cases}
 use Rattle.card.specs.CaseFields.{with-shape, with-busy, with-alone, with-room}
-use Rattle.card.specs.Numbers.{none, numberOf, placed}
+use Rattle.card.specs.Numbers.{none, numberOf}
 use Rattle.card.proofs.Order.{tests, none-holds, placed-shape}
 use Rattle.table.specs.Network.{rows, phase, LOST, shape}
 use Rattle.desk.specs.Lap.{online, nodes, lapCases, lapNumber}

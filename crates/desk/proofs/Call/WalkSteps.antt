@@ -2,7 +2,7 @@
 --     var n, part n    a local, or a field of one, is read: it is entry n of the context
 --     sets n           a local that is still room, entry n, is assigned, and the rest runs
 --     tests            the test of a `while`: the turn goes on, or the loop is left
---     ends             a local that holds something is freed
+--     ends, ends5      a local that holds something is freed, and five of them
 --     answers          a call has answered: its result, the last values of what it was lent, and what its contract says of them
 -- Assumes `Given`.
 use mathlib.Core.Path.{_≡_, refl}
@@ -53,6 +53,15 @@ module _ {M : Type 1} {𝓤 : URA M} {H : Heap 𝓤} {A : Atoms 𝓤} {K : Type 
   pub ends : K → {τ : Ty} {l : ℕ} {E : Env 𝓤 H} {v : Val} {g : Goal 𝓤 H}
       → Step K W Γ (frees E g) (‵ (fat fullShare τ l 0 v) ∷ ‵ (fdies τ l) ∷ Γ) (frees ((τ, l) ∷ E) g)
   ends t = step (λ s. forget t 0 refl $ free1 t $ s)
+
+-- five locals are freed at once
+pub ends5 : {M : Type 1} {𝓤 : URA M} {H : Heap 𝓤} {A : Atoms 𝓤} {K : Type 0} {W : Given 𝓤 H A} {Γ : List (Item 𝓤)} → K
+    → {τ₁ τ₂ τ₃ τ₄ τ₅ : Ty} {l₁ l₂ l₃ l₄ l₅ : ℕ} {E : Env 𝓤 H} {v₁ v₂ v₃ v₄ v₅ : Val} {g : Goal 𝓤 H}
+    → Step K W Γ (frees E g)
+    (‵ (fat fullShare τ₁ l₁ 0 v₁) ∷ ‵ (fdies τ₁ l₁) ∷ ‵ (fat fullShare τ₂ l₂ 0 v₂) ∷ ‵ (fdies τ₂ l₂) ∷ ‵ (fat fullShare τ₃ l₃ 0 v₃) ∷ ‵ (fdies τ₃ l₃)
+    ∷ ‵ (fat fullShare τ₄ l₄ 0 v₄) ∷ ‵ (fdies τ₄ l₄) ∷ ‵ (fat fullShare τ₅ l₅ 0 v₅) ∷ ‵ (fdies τ₅ l₅) ∷ Γ)
+    (frees ((τ₁, l₁) ∷ (τ₂, l₂) ∷ (τ₃, l₃) ∷ (τ₄, l₄) ∷ (τ₅, l₅) ∷ E) g)
+ends5 t = step (λ s. ends t $ ends t $ ends t $ ends t $ ends t $ s)
 
 -- a function F, called at κs, qs and a, has returned v
 module _ {M : Type 1} (𝓤 : URA M) (H : Heap 𝓤) (A : Atoms 𝓤) (F : Ended) (c : Clauses 𝓤 F) (κs : Lfts (F .signature .lifetimes))

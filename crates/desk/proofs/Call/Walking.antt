@@ -1,20 +1,18 @@
 -- A lap on its way: the network, the invitations and the entries after k steps.
 -- Assumes nothing.
-use mathlib.Core.Path.{_≡_, refl, sym, ap, _∙_}
-use mathlib.Core.Logic.{⊎-elim}
+use mathlib.Core.Path.{_≡_, sym, ap, _∙_}
 use mathlib.Core.Bool.{true}
-use mathlib.Core.List.{List, [], _∷_, _++_}
+use mathlib.Core.List.{List}
 use Prim.Native.Nat.{ℕ, zero, suc, _+_, _*_, _-_, _<_, _≤_}
 use native.Mathlib.Nat.{add-zero, add-suc}
 use native.Mathlib.Omega.{arith}
 use lib.ListN.{length, length-append}
 use Rattle.card.specs.Words.{pick}
 use Rattle.card.proofs.Bools.{and-left, pick-of}
-use Rattle.line.specs.declared.step.Answer.{Answer}
 use Rattle.table.specs.Network.{phase, LOST, shape}
 use Rattle.line.specs.Step.{step}
 use Rattle.desk.specs.declared.laps.Taker.{Taker}
-use Rattle.desk.specs.Lap.{nodes, after, answers, invitation, passed, invitations, entry, takers, back, lapSteps}
+use Rattle.desk.specs.Lap.{nodes, after, answers, invitation, passed, invitations, takers, back, lapSteps}
 use Rattle.line.proofs.Steps.View.{Rams, Alike, alike-same, alike-then, any-step}
 use Rattle.desk.proofs.Runs.Steps.{after-none, after-more, answers-none, answers-more, since, since-none, since-more, invitations-none, invitations-more, takers-more}
 use Rattle.desk.proofs.Runs.Back.{is-back, lap-steps}
@@ -29,7 +27,7 @@ alikes net s b (suc k) =
 
 pub after-add : (j k : ℕ) (net : List ℕ) → after j (after k net) ≡ after (k + j) net
 after-add zero k net = rw (after-none, add-zero)
-after-add (suc j) k net = rw (add-suc, after-more, after-more) (ap (λ (x : List ℕ). step x 0 .after) (after-add j k net))
+after-add (suc j) k net = rw (add-suc, after-more j (after k net), after-more (k + j) net) (ap (λ (x : List ℕ). step x 0 .after) (after-add j k net))
 
 -- no more invitations than steps, and none since the holder before that is not counted
 pub invitations-most : (k : ℕ) (net : List ℕ) → invitations (answers k net) ≤ k

@@ -113,7 +113,7 @@ module _ (net : List ℕ) (s : shape net ≡ true) (b : Rams net) (lost : phase 
   unfolding back
   not-yet zero l = rw (after-none, start .answer)
   not-yet (suc k) l =
-      rw (after-first, first-holder)
+      rw (after-first k net, first-holder)
       (not-to net h (highest net) held-id (step (after k first) 0 .answer)
       (never-at net h way first (never-before (on net s) h small live top many (λ y. y) (λ y o. refl)) (run .told) k (omega arith)))
 
@@ -125,7 +125,7 @@ module _ (net : List ℕ) (s : shape net ≡ true) (b : Rams net) (lost : phase 
       let w = end .shows in
       let q : answerValue a ≡ highest net
       = end .passed-to p ∙ shape-ids net s _ _ (w .row) (held .0) (w .row-on) (held .1) (w .row-id ∙ sym held-id) in
-      rw (after-first, p, first-holder, q) (eq-eqb (highest net) (highest net) refl)
+      rw (after-first (length way) net, p, first-holder, q) (eq-eqb (highest net) (highest net) refl)
 
   pub not-back : (k : ℕ) → k < 255 + 2 * nodes net → back net k ≡ false
   not-back k l = not-yet k (omega (arith, size))
@@ -141,7 +141,7 @@ module _ (net : List ℕ) (s : shape net ≡ true) (b : Rams net) (lost : phase 
   lap-steps = ap suc (seek-is (back net) (256 + 2 * nodes net) (suc (length way)) (omega (arith, size)) again not-yet) ∙ size
 
   stops-at : after (lapSteps net) net ≡ step near 0 .after
-  stops-at = rw (lap-steps, ← size, after-more, after-first)
+  stops-at = rw (lap-steps, ← size, after-more (suc (length way)) net, after-first (length way) net)
 
   -- it stops with the first holder in TAKEN
   pub lap-phase : phase (after (lapSteps net) net) ≡ TAKEN

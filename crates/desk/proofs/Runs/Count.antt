@@ -101,7 +101,7 @@ top-above net zero j l o = absurd (omega arith)
 top-above net (suc k) j l o =
     let ih : j < k → regsAt net j .id ≤ topId net k = λ m. top-above net k j m o in
     let e : topId net (suc k) ≡ pick (onLineAt net k && ltb (topId net k) (regsAt net k .id)) (regsAt net k .id) (topId net k)
-    = rw (← add-one) (topId-more net k) in
+    = rw (← add-one k) (topId-more net k) in
     rw e (at (ltb j k) refl ih)
   where
     at : (b : Bool) → ltb j k ≡ b → (j < k → regsAt net j .id ≤ topId net k)
@@ -122,7 +122,7 @@ online-none net = refl
 
 pub online-more : (net : List ℕ) (k : ℕ) → online net (k + 1) ≡ pick (onLineAt net k) (online net k + 1) (online net k)
 unfolding online
-online-more net k = rw (add-one, add-one)
+online-more net k = rw (add-one k, add-one (online net k))
 
 pub online-most : (net : List ℕ) (n : ℕ) → online net n ≤ n
 unfolding online

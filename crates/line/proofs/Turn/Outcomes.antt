@@ -1,6 +1,6 @@
 -- The outcomes of a packet, put together from what the parts ensure.
 -- Assumes nothing.
-use mathlib.Core.Path.{_≡_, sym, _∙_, ap}
+use mathlib.Core.Path.{_≡_, refl, sym, _∙_, ap}
 use mathlib.Core.Bool.{Bool, true, false, not, _&&_}
 use mathlib.Core.List.{List}
 use Prim.Native.Nat.{ℕ, _≤_, _<_}
@@ -11,13 +11,13 @@ use Rattle.card.specs.declared.regs.Regs.{Regs}
 use Rattle.card.specs.declared.packets.Shape.{Shape}
 use Rattle.line.specs.declared.passes.Event.the-variants.{Message}
 use Rattle.line.specs.declared.traffic.Outcome.{Outcome}
-use Rattle.line.specs.declared.traffic.Outcome.the-variants.{NoAnswer, Nak, Delivered, Unacknowledged}
+use Rattle.line.specs.declared.traffic.Outcome.the-variants.{Broadcast, NoAnswer, Nak, Delivered, Unacknowledged}
 use Rattle.card.specs.Words.{pick}
 use Rattle.card.specs.Packets.{pageShape}
 use Rattle.card.specs.Row.{putRegs}
 use Rattle.card.specs.Events.{heard, sent, enquired, receiving, storable}
 use Rattle.table.specs.Network.{rows, rowAt, setRow, eachRow, onRegs, regsAt}
-use Rattle.line.specs.Traffic.{happens, acknowledged, wentOut, packetTurn, asked, enquiryTurn}
+use Rattle.line.specs.Traffic.{happens, acknowledged, wentOut, broadcastTurn, packetTurn, asked, enquiryTurn}
 use Rattle.line.proofs.Turn.Sends.{is-happened, put-after}
 
 -- an enquiry that no packet follows
@@ -25,6 +25,13 @@ pub asked-is : (net : List ℕ) (h n : ℕ) → n ≡ rows net → (nak : Bool) 
     → (r : Regs) → r ≡ regsAt x h → (g : Regs) → g ≡ enquired r nak → (y : List ℕ) → y ≡ setRow x h (putRegs (rowAt x h) g) → y ≡ asked net h nak
 unfolding asked
 asked-is net h n en nak x ex r er g eg y ey = put-after _ x (is-happened net n en (Message h false) x ex) h r er (λ (g : Regs). enquired g nak) g eg y ey
+
+-- a broadcast
+pub is-broadcast : (net : List ℕ) (h p fault n : ℕ) → n ≡ rows net → (x : List ℕ) → x ≡ wentOut net h p fault n true → (r : Regs) → r ≡ regsAt x h
+    → (g : Regs) → g ≡ sent r false → (y : List ℕ) → y ≡ setRow x h (putRegs (rowAt x h) g)
+    → (Broadcast ≡ broadcastTurn net h p fault .answer) × (y ≡ broadcastTurn net h p fault .after)
+unfolding broadcastTurn
+is-broadcast net h p fault n en x ex r er g eg y ey = (refl, put-after _ x (rw en at ex) h r er (λ (g : Regs). sent g false) g eg y ey)
 
 module _ (net : List ℕ) (h p fault t : ℕ) where
   -- what the code tests is what acknowledges

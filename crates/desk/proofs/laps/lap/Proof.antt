@@ -43,7 +43,7 @@ use denote.Triple.Walked.{says, Stays, gave-slice, walkOf, goes-gave-slice, Walk
 use Rattle.desk.specs.Lap.{lapTakers, lapped, netAfterLap, listAfterLap, Walks as Handed}
 use Rattle.desk.specs.declared.laps.Taker.{Taker}
 use Rattle.desk.specs.declared.laps.Walked.{Walked}
-use Rattle.desk.proofs.Call.WalkSteps.{var, part, sets, ends, answers}
+use Rattle.desk.proofs.Call.WalkSteps.{var, part, sets, ends5, answers}
 use Rattle.desk.proofs.Call.TakerRows.{R, records}
 use Rattle.desk.proofs.laps.Taker as T
 use Rattle.desk.proofs.laps.Taker.Laws as T′
@@ -221,7 +221,7 @@ module _ {M : Type 1} (𝓤 : URA M) (H : Heap 𝓤) (A : Atoms 𝓤) (W : Given
         (LL.lawful D.the-type D′.the-laws 𝓤 H A W .typed (r .lapped) _ (fields .0) .0) $
         returns ! (look ! 25 refl) $
         move ! (25 ∷ 26 ∷ 23 ∷ 24 ∷ 21 ∷ 22 ∷ 19 ∷ 20 ∷ 17 ∷ 18 ∷ 15 ∷ 16 ∷ 13 ∷ 14 ∷ 11 ∷ 12 ∷ 9 ∷ 10 ∷ 7 ∷ 8 ∷ []) $
-        ends ! $ ends ! $ ends ! $ ends ! $ ends ! $ ends ! $ ends ! $ ends ! $ ends ! $ ends ! $ free0 ! $
+        ends5 ! $ ends5 ! $ free0 ! $
         keep ! (5 ∷ 2 ∷ 3 ∷ 0 ∷ []) $
         by ! (exits r (zs .0) (ws .0) e e′ l l′ (records (r .list) _ (fields .1 .1 .0) .1 .0 .1) (fields .0))))))))))))))))))))))
 

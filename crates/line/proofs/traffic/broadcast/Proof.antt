@@ -1,12 +1,8 @@
 -- `line::traffic::broadcast` meets its contract. Assumes nothing.
-use mathlib.Core.Path.{refl, _∙_, ap}
-use mathlib.Core.Bool.{true, false}
-use Prim.Native.Nat.{ℕ}
-use Rattle.card.specs.declared.regs.Regs.{Regs}
+use mathlib.Core.Path.{refl}
 use Rattle.card.specs.Events.{sent}
-use Rattle.line.specs.Traffic.{wentOut, broadcastTurn}
 use Rattle.table.proofs.Shaped.Bounds.{bounds}
-use Rattle.line.proofs.Turn.Sends.{put-after}
+use Rattle.line.proofs.Turn.Outcomes.{is-broadcast}
 use borrow.Author.Needs.{needs}
 use Rattle.line.proofs.traffic.broadcast.Statement.{statement}
 use Rattle.line.proofs.traffic.broadcast.Tie as tie
@@ -27,15 +23,14 @@ put-regs-requires c κs =
     bounds _ (a .pre .0) _ (s .send .kept .0) .row _ (a .pre .1 .0)
 
 returns : tie.Need-returns
-unfolding broadcastTurn
 returns c =
     let u = c .before .before in
     let v = u .before .before in
     let s = v .before .before .before .before .before in
     let n = s .before .before in
     let a = n .before .before .before .args in
-    let e = ap (λ (n : ℕ). wentOut (a .net .now) (a .h) (a .page) (a .fault) n true) (n .rows .ensures .0) in
-    (refl, put-after _ _ (s .send .ensures ∙ e) (a .h) _ (v .before .regs-at .ensures) (λ (g : Regs). sent g false) _ (v .sent .ensures) _ (u .put-regs .ensures))
+    is-broadcast (a .net .now) (a .h) (a .page) (a .fault) _ (n .rows .ensures .0) _ (s .send .ensures) _ (v .before .regs-at .ensures) _ (v .sent .ensures)
+    _ (u .put-regs .ensures)
 
 pub broadcast-spec : {M : Type 1} → statement M
 broadcast-spec =
