@@ -5,7 +5,7 @@ ghost use mathlib.Core.List.{_++_};
 ghost use Prim.Native.Nat.{_≤_};
 ghost use lib.ListN.{length, take, drop};
 ghost use Rattle.table.specs.Network.{rowLimit, LOST, rowStart, phase, shape};
-ghost use Rattle.desk.specs.Lap.{online, nodes, invitation, passed, invitations, takers, answers, after, lapSteps, lapNumber, lapped, netAfterLap, lapTakers, listAfterLap, nobody, Walks};
+ghost use Rattle.desk.specs.Lap.{online, nodes, invitation, passed, invitations, takers, answers, after, lapSteps, lapNumber, lapped, netAfterLap, listAfterLap, nobody, Walks};
 use card::numbers::Cases;
 use line::step::Answer;
 use line::step::step_on;

@@ -8,9 +8,9 @@ use Prim.Native.Nat.{ℕ, zero, suc, _+_, _*_, _%_, _<_, _≤_}
 use native.Mathlib.Omega.{arith}
 use lib.ListN.{length}
 use Rattle.desk.proofs.ById.Ring.{Call, Took, Spoke, Ring, Runs, stop, go, calls, roster}
-use Rattle.desk.proofs.ById.Scan.{last, Linked, Off, off-first, off-later, off-here, hear, Ready}
+use Rattle.desk.proofs.ById.Scan.{last, Linked, Off, off-first, off-later, off-here, hear}
 use Rattle.desk.proofs.ById.Roster.{takes, invites, roster-is}
-use Rattle.desk.proofs.ById.FirstLap.{Lap, lap, back, begin}
+use Rattle.desk.proofs.ById.FirstLap.{lap, back, begin}
 
 -- what is told: each in turn has its turn, and passes the token to the next
 abbrev pub settled : List ℕ → List Call

@@ -3,7 +3,7 @@
 use mathlib.Core.Path.{_≡_, refl, sym, ap, _∙_, fun-ext}
 use mathlib.Core.Logic.{_≢_, ⊎-elim}
 use mathlib.Core.Bool.{Bool, true, false, cond, _&&_, _||_}
-use mathlib.Core.List.{List, [], _∷_}
+use mathlib.Core.List.{List, _∷_}
 use Prim.Native.Nat.{ℕ, zero, suc, _+_, _%_, _<_, _≤_}
 use native.Mathlib.Numerals.{add-one}
 use native.Mathlib.Omega.{arith}
@@ -13,7 +13,7 @@ use borrow.Author.Tests.{eqb-true, eqb-false, ltb-true, ltb-false}
 use Rattle.card.specs.Words.{pick}
 use Rattle.card.proofs.Bools.{cases, and-right, pick-of}
 use Rattle.table.specs.Folds.{some}
-use Rattle.table.specs.Network.{rows, regsAt, onLineAt, isNode, topId}
+use Rattle.table.specs.Network.{regsAt, onLineAt, isNode, topId}
 use Rattle.table.proofs.Folds.{clash, some-none, some-more, some-not}
 use Rattle.table.proofs.Online.Nodes.{topId-more, node-of, node-online, node-id}
 use Rattle.desk.specs.Lap.{online}

@@ -14,7 +14,7 @@ use Rattle.table.specs.Network.{rows, phase, holder, regsAt, onLineAt, shape}
 use Rattle.line.specs.Step.{step, invited, taker, answerValue}
 use Rattle.table.proofs.Shaped.Shapes.{shape-ids}
 use Rattle.desk.specs.Lap.{after, answers, passed}
-use Rattle.line.proofs.Steps.View.{Alike, alike-then, taker-step, AfterNone, none-step, held-step}
+use Rattle.line.proofs.Steps.View.{Alike, taker-step, AfterNone, none-step, held-step}
 use Rattle.desk.proofs.ById.Ring.{Call, Took, Missed, Spoke, Ring, next, upd, turn, Runs, stop, go}
 use Rattle.desk.proofs.ById.Scan.{upd-same, upd-other}
 use Rattle.desk.proofs.Runs.Steps.{after-none, after-first, answers-none, answers-first, seen}

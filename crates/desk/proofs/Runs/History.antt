@@ -1,23 +1,21 @@
 -- A history of calls: what is between the steps leaves the token where it is, and so the steps follow the ring.
 -- Assumes nothing.
 use mathlib.Core.Path.{_≡_, refl, sym, ap, _∙_}
-use mathlib.Core.Bool.{true, false}
+use mathlib.Core.Bool.{true}
 use mathlib.Core.List.{List, [], _∷_, map}
-use Prim.Native.Nat.{ℕ, zero, suc, _<_}
+use Prim.Native.Nat.{ℕ, _<_}
 use native.Mathlib.Nat.{suc-inj}
 use native.Mathlib.Omega.{arith}
 use lib.ListN.{length}
-use Rattle.line.specs.declared.step.Answer.{Answer}
-use Rattle.table.specs.Network.{rows, phase, holder, regsAt, onLineAt, shape, SameNodes}
+use Rattle.table.specs.Network.{rows, holder, onLineAt, shape, SameNodes}
 use Rattle.line.specs.Step.{step}
-use Rattle.line.proofs.Steps.View.{Rams}
 use Rattle.desk.specs.Demand.{Call, Step, Read, Write, Reset, Look, called, table, steps, answersOf, Throughout}
-use Rattle.table.proofs.Access.Calm.{Calm, calm-read, calm-write, calm-reset, calm-same, same-nodes-then}
+use Rattle.table.proofs.Access.Calm.{Calm, calm-read, calm-write, calm-reset, same-nodes-then}
 use Rattle.desk.proofs.ById.Ring as ring
-use Rattle.desk.proofs.ById.Ring.{Ring, turn, Runs, stop, go}
+use Rattle.desk.proofs.ById.Ring.{Ring, Runs, stop, go}
 use Rattle.desk.proofs.Runs.Steps.{seen}
 use Rattle.desk.proofs.Runs.Shows.{on, Shows}
-use Rattle.desk.proofs.Runs.Follow.{Followed, follow}
+use Rattle.desk.proofs.Runs.Follow.{follow}
 use Rattle.desk.proofs.Runs.InRows.{ToNodes}
 
 -- the nodes of two networks are those of a third

@@ -12,7 +12,7 @@ use Rattle.desk.specs.Lap.{nodes, answers, invitations, takers, back, la
 use Rattle.line.proofs.Steps.View.{Rams}
 use Rattle.desk.proofs.ById.Ring.{calls, roster}
 use Rattle.desk.proofs.ById.Roster.{takes, invites, roster-is}
-use Rattle.desk.proofs.ById.FirstLap.{before, lap-takes, lap-counts}
+use Rattle.desk.proofs.ById.FirstLap.{lap-takes, lap-counts}
 use Rattle.desk.proofs.Runs.Steps.{invitations-seen, takers-seen}
 use Rattle.desk.proofs.Runs.Hops.{hops, gaps, takers-hops, hops-first}
 use Rattle.desk.proofs.Runs.Shows.{on}

@@ -16,7 +16,7 @@ use Rattle.table.proofs.Shaped.Shapes.{shape-ids}
 use Rattle.table.proofs.Online.Nodes.{node-of, node-online, node-id, nodeOf-most, nodeOf-found, nodeOf-fails}
 use Rattle.line.proofs.Steps.View.{Rams}
 use Rattle.table.specs.Network.{SameNodes}
-use Rattle.desk.proofs.ById.Ring.{Ring, next, heeds}
+use Rattle.desk.proofs.ById.Ring.{Ring, heeds}
 use Rattle.desk.proofs.ById.Scan.{and-false}
 use Rattle.desk.proofs.Runs.Count.{onFirst}
 

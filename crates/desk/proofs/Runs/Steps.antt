@@ -3,9 +3,7 @@
 use mathlib.Core.Path.{_≡_, refl, ap, _∙_}
 use mathlib.Core.Bool.{Bool, true, false}
 use mathlib.Core.List.{List, [], _∷_, _++_, map}
-use Prim.Native.Nat.{ℕ, zero, suc, _+_, _≤_}
-use native.Mathlib.Omega.{arith}
-use lib.ListN.{length, length-append}
+use Prim.Native.Nat.{ℕ, zero, suc, _+_}
 use Rattle.card.specs.Words.{pick}
 use Rattle.card.proofs.Bools.{pick-of}
 use Rattle.line.specs.declared.step.Answer.{Answer}

@@ -1,20 +1,17 @@
 -- The lap call is the lap of demand 3: what it answers, its entries and its network are those of the steps, and the laps after it are later laps.
 -- Assumes nothing.
-use mathlib.Core.Path.{_≡_, refl, sym, ap, _∙_}
-use mathlib.Core.Bool.{true}
-use mathlib.Core.List.{List, [], _∷_, _++_}
-use Prim.Native.Nat.{ℕ, zero, suc, _+_, _*_, _<_}
+use mathlib.Core.Path.{_≡_, refl, ap, _∙_}
+use mathlib.Core.List.{List, [], _∷_}
+use Prim.Native.Nat.{ℕ, zero, suc, _+_}
 use native.Mathlib.Omega.{arith}
-use lib.ListN.{length, getD}
 use borrow.Author.Tests.{eq-eqb}
-use Rattle.table.specs.Network.{shape}
 use Rattle.line.specs.Step.{step}
 use Rattle.table.proofs.Shaped.Alike.{bytes-rams}
-use Rattle.line.proofs.Steps.View.{Rams, Alike, alike-same, alike-then, any-step}
+use Rattle.line.proofs.Steps.View.{Alike, alike-same, alike-then, any-step}
 use Rattle.table.proofs.Access.Calm.{alike-nodes}
-use Rattle.desk.specs.Lap.{nodes, after, answers, lapSteps, lapNumber, lapped, netAfterLap, lapTakers, takers}
+use Rattle.desk.specs.Lap.{nodes, after, answers, lapSteps, lapNumber, lapped, netAfterLap, lapTakers}
 use Rattle.desk.specs.Demand.{Call, Step, Ready, table, steps, answersOf, Throughout, LapOf}
-use Rattle.desk.specs.Promises.{TheLap, LapCallIsTheLap}
+use Rattle.desk.specs.Promises.{LapCallIsTheLap}
 use Rattle.desk.proofs.Call.LapNumber.{lap-shape, lap-lost, lap-two}
 use Rattle.desk.proofs.Runs.Back.{lap-steps}
 use Rattle.desk.proofs.Runs.LapCounts.{lap-entries}

@@ -40,7 +40,7 @@ use denote.Triple.Statement.{Contract, Triple}
 use denote.Triple.Call.{calls-at}
 use denote.Triple.Table.{entered, cited}
 use denote.Triple.Walked.{says, Stays, gave-slice, walkOf, goes-gave-slice, Walks, ends-at, walked, walk-meets}
-use Rattle.desk.specs.Lap.{lapTakers, lapped, netAfterLap, listAfterLap, Walks as Handed}
+use Rattle.desk.specs.Lap.{lapTakers, lapped, listAfterLap, Walks as Handed}
 use Rattle.desk.specs.declared.laps.Taker.{Taker}
 use Rattle.desk.specs.declared.laps.Walked.{Walked}
 use Rattle.desk.proofs.Call.WalkSteps.{var, part, sets, ends5, answers}

@@ -1,14 +1,12 @@
 -- `desk::laps::run` meets its contract. The loop's invariant: its variables hold what the steps so far answered; the variant: the steps that are
 -- left until the first holder has the token again.
 -- Assumes nothing.
-use mathlib.Core.Path.{_≡_, refl, sym, ap, _∙_}
+use mathlib.Core.Path.{refl, ap}
 use mathlib.Core.Logic.{⊎-elim}
-use Prim.Native.Nat.{ℕ, _+_}
+use Prim.Native.Nat.{ℕ}
 use native.Mathlib.Omega.{arith}
 use borrow.Author.Needs.{needs}
-use Rattle.card.specs.Words.{pick}
 use Rattle.table.proofs.Shaped.Alike.{bytes-rams}
-use Rattle.table.proofs.Shaped.Shapes.{shape-within}
 use Rattle.desk.proofs.Call.Going.{Going}
 use Rattle.desk.proofs.Call.LapLoop.{steps-left, starts, same-size, ends, going-shape, going-small, turn-other, turn-part, turn-passed}
 use Rattle.desk.proofs.laps.run.Statement.{statement}

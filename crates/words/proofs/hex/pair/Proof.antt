@@ -1,6 +1,5 @@
 -- `words::hex::pair` meets its contract.
 -- Assumes nothing.
-use mathlib.Core.Path.{_≡_}
 use Rattle.words.specs.Hex.{pair}
 use borrow.Author.Needs.{needs}
 use Rattle.words.proofs.hex.pair.Statement.{statement}

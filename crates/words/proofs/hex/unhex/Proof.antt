@@ -1,8 +1,7 @@
 -- `words::hex::unhex` meets its contract. The loop's invariant: the first k bytes are stored.
 -- Assumes nothing.
-use mathlib.Core.Path.{refl, sym}
+use mathlib.Core.Path.{refl}
 use Prim.Native.Nat.{_-_}
-use native.Mathlib.Omega.{arith}
 use lib.ListN.{length}
 use borrow.Author.Needs.{needs}
 use Rattle.words.proofs.Pairs.{Spelt, spelt-more, spelt-all}
