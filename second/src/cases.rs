@@ -1,9 +1,10 @@
-//! The fixed cases of document 01, "Sums to prove and sums to run".
+//! The fixed cases of document 01, "Sums to prove and sums to run", and the sweeps.
 
 use crate::model::{Network, MOST_ROWS};
 use crate::order::ORDER_MARK;
 use crate::peer::{InProcess, Peer};
 use crate::prompt::hex_text;
+use crate::sweeps;
 
 /// Lines with the answers that document 01 gives them.
 type Script = Vec<(String, String)>;
@@ -23,6 +24,18 @@ pub fn run(peer: &mut dyn Peer) -> Result<(), String> {
         (
             "fault 2 on a broadcast changes nothing",
             both.fault_on_broadcast(),
+        ),
+        (
+            "the values that each register takes",
+            both.each(sweeps::registers),
+        ),
+        (
+            "the values with which a row is well formed",
+            both.each(sweeps::forms),
+        ),
+        (
+            "N is 1-253 or 257-508, whatever the count bytes",
+            both.each(sweeps::lengths),
         ),
     ];
     let mut failed = false;
@@ -155,6 +168,11 @@ impl Both<'_> {
                 "sums here and there before and after the step: {sums:?}"
             ))
         }
+    }
+
+    fn each(&mut self, sweep: fn(&mut dyn Peer) -> Result<(), String>) -> Result<(), String> {
+        sweep(&mut self.here).map_err(|error| format!("here {error}"))?;
+        sweep(self.there).map_err(|error| format!("there {error}"))
     }
 
     fn answers(&mut self, line: &str) -> Result<(String, String), String> {

@@ -14,22 +14,26 @@ mod refusal;
 mod registers;
 mod rng;
 mod scenes;
+mod sweeps;
 mod tally;
 #[cfg(test)]
 mod tests;
 
+use std::io::{self, BufRead, Write};
 use std::process::ExitCode;
 use std::time::Instant;
 
 use comparison::Comparison;
 use peer::{InProcess, Peer, Piped};
+use prompt::Prompt;
 use scenes::Player;
 
 const USAGE: &str = "\
 second campaign CALLS SEED -- COMMAND ARGS..   random calls, every answer and byte compared
 second self CALLS SEED                         the same against the prompt of this program
 second cases -- COMMAND ARGS..                 the fixed cases
-second bench -- COMMAND ARGS..                 how fast it is";
+second bench -- COMMAND ARGS..                 how fast it is
+second prompt                                  answers the lines of standard input itself";
 
 fn main() -> ExitCode {
     let arguments: Vec<String> = std::env::args().skip(1).collect();
@@ -43,6 +47,7 @@ fn main() -> ExitCode {
         ["bench", "--", _, ..] => {
             start(&arguments[2..]).and_then(|mut peer| benchmark::run(&mut peer))
         }
+        ["prompt"] => prompt().map_err(|error| error.to_string()),
         _ => {
             eprintln!("{USAGE}");
             return ExitCode::from(2);
@@ -59,6 +64,16 @@ fn main() -> ExitCode {
 
 fn start(command: &[String]) -> Result<Piped, String> {
     Piped::start(command).map_err(|error| format!("{}: {error}", command.join(" ")))
+}
+
+/// Answers each line of standard input, until it ends.
+fn prompt() -> io::Result<()> {
+    let mut prompt = Prompt::new();
+    let mut answers = io::stdout().lock();
+    for line in io::stdin().lock().split(b'\n') {
+        writeln!(answers, "{}", prompt.answer(&line?))?;
+    }
+    Ok(())
 }
 
 fn campaign(peer: &mut dyn Peer, calls: &str, seed: &str) -> Result<(), String> {

@@ -37,7 +37,7 @@ pub fn number(out: &mut [u8; ROOM], n: usize, number: usize) -> usize {
 }
 
 // A byte as two digits in hex.
-pub fn byte(out: &mut [u8; ROOM], n: usize, b: u8) -> usize {
+fn byte(out: &mut [u8; ROOM], n: usize, b: u8) -> usize {
     let n = put(out, n, DIGITS[(b / 16) as usize]);
     put(out, n, DIGITS[(b % 16) as usize])
 }
@@ -68,15 +68,10 @@ fn write(s: &[u8], n: usize) {
     }
 }
 
-// What is gathered is written.
-pub(crate) fn flush(out: &mut [u8; ROOM], n: usize) {
-    write(out, n);
-}
-
 // The line ends, and what is gathered is written.
 pub fn end(out: &mut [u8; ROOM], n: usize) {
     let n = put(out, n, b'\n');
-    flush(out, n);
+    write(out, n);
 }
 
 // A number at the right of a column of four.
