@@ -211,7 +211,8 @@ module _ {M : Type 1} (𝓤 : URA M) (H : Heap 𝓤) (A : Atoms 𝓤) (W : Given
           -- [room for _4; obs; the borrow; the token; _5; _6; room for _7 … _12; _1; _3; _0; room for _2; and that each local dies]
           returns ! (look ! 14 refl) $
           move ! (14 ∷ 16 ∷ 12 ∷ 17 ∷ 15 ∷ 18 ∷ 13 ∷ 19 ∷ 0 ∷ 20 ∷ 4 ∷ 21 ∷ 5 ∷ 22 ∷ 6 ∷ 23 ∷ 7 ∷ 24 ∷ 8 ∷ 25 ∷ 9 ∷ 26 ∷ 10 ∷ 27 ∷ 11 ∷ 28 ∷ []) $
-          ends ! $ ends ! $ free1 ! $ ends ! $ free1 ! $ ends ! $ ends ! $ free1 ! $ free1 ! $ free1 ! $ free1 ! $ free1 ! $ free1 ! $ free0 ! $
+          ends ! 0 refl refl $ ends ! 0 refl refl $ free1 ! $ ends ! 0 refl refl $ free1 ! $ ends ! 0 refl refl $ ends ! 0 refl refl $
+          free1 ! $ free1 ! $ free1 ! $ free1 ! $ free1 ! $ free1 ! $ free0 ! $
           by ! (exits room (fit n (omega arith))))
         where
           none : Taker

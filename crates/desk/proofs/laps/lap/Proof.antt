@@ -43,7 +43,7 @@ use denote.Triple.Walked.{says, Stays, gave-slice, walkOf, goes-gave-slice, Walk
 use Rattle.desk.specs.Lap.{lapTakers, lapped, listAfterLap, Walks as Handed}
 use Rattle.desk.specs.declared.laps.Taker.{Taker}
 use Rattle.desk.specs.declared.laps.Walked.{Walked}
-use Rattle.desk.proofs.Call.WalkSteps.{var, part, sets, ends5, answers}
+use Rattle.desk.proofs.Call.WalkSteps.{var, part, sets, ends, answers}
 use Rattle.desk.proofs.Call.TakerRows.{R, records}
 use Rattle.desk.proofs.laps.Taker as T
 use Rattle.desk.proofs.laps.Taker.Laws as T′
@@ -203,15 +203,16 @@ module _ {M : Type 1} (𝓤 : URA M) (H : Heap 𝓤) (A : Atoms 𝓤) (W : Given
         let fields = LL.owed K.the-type K′.the-laws r (w ∷ []) is in
         land ! (from ! (stop !)) (init ! 19 refl (LL.lawful K.the-type K′.the-laws 𝓤 H A W .typed r _ is .0)) $
         rewrite ! 19 (λ (u : Val). ‵ (fat fullShare K′.mir l₃ 0 u)) (ap only (LL.tells K.the-type K′.the-laws r _ is)) refl $ drop ! $
-        -- takers goes to `fill`.        [net's last bytes; …; net's token; takers' token; what takers owns; true; _9; …]
+        -- takers goes to `fill`, with r's list and n, at 16 and 8 in r.
+        -- [net's last bytes; …; net's token; takers' token; what takers owns; true; _9; …]
         sets ! 8 (addr ! (from ! (fld ! refl (hop ! (look-in ! 20 (sub ! 0 refl (whole !))) (stop !))))) refl (tt, tt) $
         sets ! 6 (agg ! (and-then ! (var ! 8 refl) (and-then ! (part ! 20 refl (sub ! 1 refl (whole !))) (no-more !)))) refl
         (tt, (tt, (record { fits = room′ .0 }, tt))) $
         move ! (3 ∷ 4 ∷ []) $
         use2 W (raw (Fill 𝓤 H A at-mem run .pre (to-fill r))) (goes-fill r (fields .1 .0 .1) (records (r .list) _ (fields .1 .1 .0)) (e .0, e .1)) $
         calls-at ! fm (Fill 𝓤 H A at-mem run) known-fill (to-fill r)
-        (and-then ! (var ! 5 refl) (and-then ! (part ! 17 refl (sub ! 2 refl (whole !)))
-        (and-then ! (part ! 17 refl (sub ! 1 refl (whole !))) (no-more !)))) (λ u.
+        (and-then ! (var ! 5 refl) (and-then ! (part ! 17 {d = 16} refl (sub ! 2 {d = 16} refl (whole !)))
+        (and-then ! (part ! 17 {d = 8} refl (sub ! 1 {d = 8} refl (whole !))) (no-more !)))) (λ u.
         answers 𝓤 H A fill.ended (fill.clauses 𝓤 H A at-mem run) (κ′, tt) (q′, tt) (x′, (r .list, (r .n, tt))) tt u W ! tt (λ r′ ws.
         heard ! (Filled r (ws .0)) (λ e′.
         fsplit ! $ fsplit ! $ move ! (1 ∷ []) $ feqL ! (λ l′. move ! (2 ∷ []) $ peeks ! Nothing (Is Nothing) (shows 𝓤 H A Nothing) r′ (u ∷ []) (λ is′.
@@ -220,9 +221,8 @@ module _ {M : Type 1} (𝓤 : URA M) (H : Heap 𝓤) (A : Atoms 𝓤) (W : Given
         sets ! 25 (of-opd ! (part ! 19 refl (sub ! 0 refl (whole !)))) refl
         (LL.lawful D.the-type D′.the-laws 𝓤 H A W .typed (r .lapped) _ (fields .0) .0) $
         returns ! (look ! 25 refl) $
-        move ! (25 ∷ 26 ∷ 23 ∷ 24 ∷ 21 ∷ 22 ∷ 19 ∷ 20 ∷ 17 ∷ 18 ∷ 15 ∷ 16 ∷ 13 ∷ 14 ∷ 11 ∷ 12 ∷ 9 ∷ 10 ∷ 7 ∷ 8 ∷ []) $
-        ends5 ! $ ends5 ! $ free0 ! $
-        keep ! (5 ∷ 2 ∷ 3 ∷ 0 ∷ []) $
+        ends ! 25 refl refl $ ends ! 23 refl refl $ ends ! 21 refl refl $ ends ! 19 refl refl $ ends ! 17 refl refl $ ends ! 15 refl refl $
+        ends ! 13 refl refl $ ends ! 11 refl refl $ ends ! 9 refl refl $ ends ! 7 refl refl $ free0 ! $ keep ! (5 ∷ 2 ∷ 3 ∷ 0 ∷ []) $
         by ! (exits r (zs .0) (ws .0) e e′ l l′ (records (r .list) _ (fields .1 .1 .0) .1 .0 .1) (fields .0))))))))))))))))))))))
 
 module _ {M : Type 1} (𝓤 : URA M) (H : Heap 𝓤) (A : Atoms 𝓤) (W : Given 𝓤 H A) (at-mem : Memory → SProp 𝓤) (run : Routine → Fun 𝓤) (𝓣 : Tables 𝓤 H)
