@@ -1,6 +1,5 @@
 // The answer lines.
 use crate::requests::Mistake;
-use card::row::Reading;
 use line::step::Answer;
 use line::traffic::Outcome;
 use print::gather::ROOM;
@@ -10,6 +9,7 @@ use print::gather::number;
 use print::gather::put;
 use print::gather::text;
 use table::calls::Interrupting;
+use table::calls::Reading;
 
 // A line of its own.
 pub fn whole(out: &mut [u8; ROOM], s: &[u8]) {

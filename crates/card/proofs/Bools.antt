@@ -21,6 +21,29 @@ pub and-right : (a b : Bool) → (a && b) ≡ true → b ≡ true
 and-right true b h = h
 and-right false b h = cc
 
+pub and-true : (a : Bool) → (a && true) ≡ a
+and-true true = refl
+and-true false = refl
+
+pub and-false : (a : Bool) → (a && false) ≡ false
+and-false true = refl
+and-false false = refl
+
+pub and-assoc : (a b c : Bool) → (a && (b && c)) ≡ (a && b && c)
+and-assoc true b c = refl
+and-assoc false b c = refl
+
+pub and-five : (a b c d e : Bool) → (a && b && c && d && e) ≡ true → (a ≡ true) × (b ≡ true) × (c ≡ true) × (d ≡ true) × (e ≡ true)
+and-five a b c d e h =
+    let p = and-left (a && b && c && d) e h in
+    let q = and-left (a && b && c) d p in
+    let r = and-left (a && b) c q in
+    (and-left a b r, and-right a b r, and-right (a && b) c q, and-right (a && b && c) d p, and-right (a && b && c && d) e h)
+
+pub or-false : (a : Bool) → (a || false) ≡ a
+or-false true = refl
+or-false false = refl
+
 pub or-true : (a : Bool) → (a || true) ≡ true
 or-true true = refl
 or-true false = refl
@@ -32,6 +55,17 @@ or-left false b h = refl
 pub or-right : (a b : Bool) → (a || b) ≡ false → b ≡ false
 or-right true b h = cc
 or-right false b h = h
+
+pub or-first : (a b : Bool) → (a || b) ≡ true → b ≡ false → a ≡ true
+or-first true b h e = refl
+or-first false b h e = cc
+
+pub or-five : (a b c d e : Bool) → (a || b || c || d || e) ≡ false → (a ≡ false) × (b ≡ false) × (c ≡ false) × (d ≡ false) × (e ≡ false)
+or-five a b c d e h =
+    let p = or-left (a || b || c || d) e h in
+    let q = or-left (a || b || c) d p in
+    let r = or-left (a || b) c q in
+    (or-left a b r, or-right a b r, or-right (a || b) c q, or-right (a || b || c) d p, or-right (a || b || c || d) e h)
 
 -- every test of a list that holds whole
 abbrev Each : List Bool → Type 0

@@ -6,8 +6,7 @@ use Prim.Native.Nat.{ℕ, _-_, _/_, _%_, _<_}
 use native.Mathlib.Omega.{arith}
 use borrow.Author.Tests.{eq-eqb, eqb-true, eqb-false, not-false}
 use lib.Bits.{bitAnd}
-use lib.Dec.{eqb, ltb, lit<}
-use lib.ListN.{getD}
+use lib.Dec.{eqb, ltb}
 use Rattle.card.specs.declared.regs.Regs.{Regs}
 use Rattle.card.specs.declared.commands.Command.{Command}
 use Rattle.card.specs.declared.commands.Command.the-variants.{Illegal, DisableTransmitter, DisableReceiver, EnableTransmit, EnableReceive, LongPackets, ClearFlags}
@@ -17,10 +16,11 @@ use Rattle.card.specs.Fields.{with-status, with-configuration}
 use Rattle.card.specs.Row.{fit}
 use Rattle.card.specs.Commands.{pageOf, commandOf}
 use Rattle.card.specs.Registers.{sub, risen, stepped, afterRead, hardwareReset, configured, commanded, seventhWritten, afterWrite}
-use Rattle.card.specs.Refusals.{illegal, busy, oddPage, readCases, writeCases, writeNumber}
-use Rattle.card.proofs.Bools.{or-left, or-right, pick-of}
+use Rattle.card.specs.Numbers.{REGISTER, VALUE, BUSY, PAGE, refuses}
+use Rattle.card.specs.Refusals.{noRegister, illegal, badValue, busy, oddPage, writeRefusals, writeNumber}
+use Rattle.card.proofs.Bools.{or-left, or-right, or-five, pick-of}
 use Rattle.card.proofs.Table.{by-table}
-use Rattle.card.proofs.Order.{tests, none-holds}
+use Rattle.card.proofs.Order.{none-refuses}
 use Rattle.card.proofs.Fits.{Fit}
 use Rattle.card.proofs.Keeps as keeps
 
@@ -46,13 +46,6 @@ small c = split (eqb c 0x01) (eqb c 0x02) (eqb (bitAnd c 0xd7) 0x03) (eqb (bitAn
     split false false false false true cf = omega arith
     split false false false false false true = tt
     split false false false false false false = tt
-
-five : (a b c d e : Bool) → (a || b || c || d || e) ≡ false → (a ≡ false) × (b ≡ false) × (c ≡ false) × (d ≡ false) × (e ≡ false)
-five true b c d e h = absurd (let z : _≡_ {A = ℕ} 0 1 = cc in omega arith)
-five false true c d e h = absurd (let z : _≡_ {A = ℕ} 0 1 = cc in omega arith)
-five false false true d e h = absurd (let z : _≡_ {A = ℕ} 0 1 = cc in omega arith)
-five false false false true e h = absurd (let z : _≡_ {A = ℕ} 0 1 = cc in omega arith)
-five false false false false e h = (refl, refl, refl, refl, h)
 
 -- a flag that is cleared where b says so
 flag : (g : Regs) → Fit g → (b : Bool) (m : ℕ) → bitAnd (255 - m) (255 - statusBits) ≡ 255 - statusBits → bitAnd (255 - m) TA ≡ TA
@@ -104,9 +97,10 @@ module _ (g : Regs) (f : Fit g) where
   keep-read k =
       pick-of Fit (eqb k 1) (λ _. keeps.keep-diagnostic g f 0 refl) (λ _. pick-of Fit (eqb k 4) (λ _. keep-stepped) (λ _. f))
 
-  module _ (k v : ℕ) (o d : Bool) (e : writeNumber g k v o d ≡ 0) where
-    none : (i : ℕ) → i < 14 → getD (tests (writeCases g k v o d)) i false ≡ false
-    none = none-holds (writeCases g k v o d) e
+  module _ (k v : ℕ) (e : writeNumber g k v ≡ 0) where
+    none : (n : ℕ) → refuses (writeRefusals g k v) n ≡ false
+    unfolding writeRefusals
+    none = none-refuses (writeRefusals g k v) refl e
 
     abbrev unnamed-mask : Bool
     unnamed-mask = eqb k 0 && not (only maskBits v)
@@ -124,21 +118,21 @@ module _ (g : Regs) (f : Fit g) where
     unnamed-setup = eqb k 7 && eqb (sub g) 2 && not (only setupBits v)
 
     good : (unnamed-mask ≡ false) × (no-command ≡ false) × (unnamed-mode ≡ false) × (unnamed-configuration ≡ false) × (unnamed-setup ≡ false)
-    unfolding writeCases
-    good = five unnamed-mask no-command unnamed-mode unnamed-configuration unnamed-setup (none 3 (lit< tt))
+    unfolding writeRefusals badValue
+    good = or-five unnamed-mask no-command unnamed-mode unnamed-configuration unnamed-setup (none VALUE)
 
     known : (eqb k 7 && eqb (sub g) 3) ≡ false
-    unfolding writeCases
-    known = or-right (ltb 7 k || eqb k 5) (eqb k 7 && eqb (sub g) 3) (none 2 (lit< tt))
+    unfolding writeRefusals noRegister
+    known = or-right (ltb 7 k || eqb k 5) (eqb k 7 && eqb (sub g) 3) (none REGISTER)
 
     at-seven : k ≡ 7 → Fit (seventhWritten g v)
     at-seven i = keep-seventh v (rw (eq-eqb _ _ i) at known) (rw (eq-eqb _ _ i) at (good .4))
 
     pub keep-write : Fit (afterWrite g k v)
-    unfolding afterWrite writeCases
+    unfolding afterWrite writeRefusals
     keep-write =
         pick-of Fit (eqb k 0) (λ i. keeps.keep-mask g f v (not-false _ (rw i at (good .0))))
-        (λ n0. pick-of Fit (eqb k 1) (λ i. keep-commanded (commandOf v) (small v) (rw i at (none 6 (lit< tt))) (rw i at (none 8 (lit< tt))))
+        (λ n0. pick-of Fit (eqb k 1) (λ i. keep-commanded (commandOf v) (small v) (rw i at (none BUSY)) (rw i at (none PAGE)))
         (λ n1. pick-of Fit (eqb k 2) (λ i. keeps.keep-mode g f v (not-false _ (rw i at (good .2))))
         (λ n2. pick-of Fit (eqb k 3) (λ i. keeps.keep-pointer g f (g .mode % 4) v (keeps.low2 LOW2 refl refl refl refl (g .mode % 4) (omega arith)))
         (λ n3. pick-of Fit (eqb k 4) (λ i. keep-stepped)
@@ -148,17 +142,3 @@ module _ (g : Regs) (f : Fit g) where
 pub fit-reset : fit hardwareReset ≡ true
 unfolding hardwareReset fit
 fit-reset = refl
-
--- a write that is not refused puts no second row on one ID
-pub write-single : (g : Regs) (k v : ℕ) (o d : Bool) → writeNumber g k v o d ≡ 0 → d ≡ false
-unfolding writeCases
-write-single g k v o d e = none-holds (writeCases g k v o d) e 9 (lit< tt)
-
--- SHAPE and ROW are none of the card's own cases
-pub read-own : (g : Regs) (k : ℕ) → (readCases g k .shape ≡ false) × (readCases g k .row ≡ false)
-unfolding readCases
-read-own g k = (refl, refl)
-
-pub write-own : (g : Regs) (k v : ℕ) (o d : Bool) → (writeCases g k v o d .shape ≡ false) × (writeCases g k v o d .row ≡ false)
-unfolding writeCases
-write-own g k v o d = (refl, refl)

@@ -1,14 +1,14 @@
 -- TA, TMA and byte 13 of a card whose transmit waits, has ended, or is cancelled.
 -- Assumes nothing.
 use mathlib.Core.Path.{_≡_, refl, sym, _∙_, ap}
-use mathlib.Core.Bool.{Bool, true, false, not, _||_, false≢true}
+use mathlib.Core.Bool.{Bool, true, false, not, false≢true}
 use borrow.Author.Tests.{eqb-true}
 use lib.Dec.{lit<}
 use Rattle.card.specs.declared.regs.Regs.{Regs}
 use Rattle.card.specs.Words.{clear, has, raise, lower}
 use Rattle.card.specs.Flags.{RI, TMA, TA, CANCEL}
 use Rattle.card.specs.Events.{heard, received, transmitCancelled, receiveCancelled, cancelled, sent, transmitting, transmitPage}
-use Rattle.card.proofs.Bools.{pick-of}
+use Rattle.card.proofs.Bools.{or-first, pick-of}
 use Rattle.card.proofs.Masks.{lower-clears, raise-other, raise-sets}
 use Rattle.card.proofs.Fits.{Fit}
 
@@ -40,10 +40,6 @@ module _ (g : Regs) (token : Bool) where
   pub heard-transmitting : transmitting (heard g token) ≡ transmitting g
   unfolding transmitting
   heard-transmitting = ap (clear TA) heard-status
-
-or-first : (a b : Bool) → (a || b) ≡ true → b ≡ false → a ≡ true
-or-first true b h e = refl
-or-first false b h e = cc
 
 -- ---- registers that fit: a transmit that waits, TA = 0 and so TMA = 0; none waits, TA = 1 and so byte 13 zero
 module _ (g : Regs) (f : Fit g) where

@@ -58,31 +58,31 @@ reset-off = refl
 module _ (g : Regs) where
   kept-stepped : Kept g (stepped g)
   unfolding stepped
-  kept-stepped = pick-of (Kept g) (has AUTO-INC (g .mode)) (λ _. search refl) (λ _. kept-same g)
+  kept-stepped = pick-of (Kept g) (has AUTO-INC (g .mode)) (λ _. search) (λ _. kept-same g)
 
   kept-commanded : (c : Command) → Kept g (commanded g c)
   unfolding commanded
   kept-commanded Illegal = kept-same g
-  kept-commanded DisableTransmitter = search refl
-  kept-commanded DisableReceiver = search refl
-  kept-commanded (EnableTransmit p) = search refl
-  kept-commanded (EnableReceive p b) = search refl
-  kept-commanded (LongPackets l) = search refl
-  kept-commanded (ClearFlags p r) = search refl
+  kept-commanded DisableTransmitter = search
+  kept-commanded DisableReceiver = search
+  kept-commanded (EnableTransmit p) = search
+  kept-commanded (EnableReceive p b) = search
+  kept-commanded (LongPackets l) = search
+  kept-commanded (ClearFlags p r) = search
 
   pub kept-read : (k : ℕ) → Kept g (afterRead g k)
   unfolding afterRead
-  kept-read k = pick-of (Kept g) (eqb k 1) (λ _. search refl) (λ _. pick-of (Kept g) (eqb k 4) (λ _. kept-stepped) (λ _. kept-same g))
+  kept-read k = pick-of (Kept g) (eqb k 1) (λ _. search) (λ _. pick-of (Kept g) (eqb k 4) (λ _. kept-stepped) (λ _. kept-same g))
 
   -- a write of any register but 6 and 7
   pub kept-write : (k v : ℕ) → eqb k 6 ≡ false → eqb k 7 ≡ false → Kept g (afterWrite g k v)
   unfolding afterWrite
   kept-write k v n6 n7 =
       rw (n6, n7)
-      (pick-of (Kept g) (eqb k 0) (λ _. search refl)
+      (pick-of (Kept g) (eqb k 0) (λ _. search)
       (λ _. pick-of (Kept g) (eqb k 1) (λ _. kept-commanded (commandOf v))
-      (λ _. pick-of (Kept g) (eqb k 2) (λ _. search refl)
-      (λ _. pick-of (Kept g) (eqb k 3) (λ _. search refl)
+      (λ _. pick-of (Kept g) (eqb k 2) (λ _. search)
+      (λ _. pick-of (Kept g) (eqb k 3) (λ _. search)
       (λ _. pick-of (Kept g) (eqb k 4) (λ _. kept-stepped) (λ _. kept-same g))))))
 
   -- the configuration is what was written, and the NID and both IDs stay
@@ -94,7 +94,7 @@ module _ (g : Regs) where
 
   pub write-six : (v : ℕ) → Configured v (afterWrite g 6 v)
   unfolding afterWrite configured
-  write-six v = pick-of (λ (h : Regs). Configured v (with-configuration v h)) (clear RESET v) (λ _. search refl) (λ _. search refl)
+  write-six v = pick-of (λ (h : Regs). Configured v (with-configuration v h)) (clear RESET v) (λ _. search) (λ _. search)
 
   -- register 7: the node ID changes only where it is what is written
   pub record Seventh (h : Regs) : Type 0 where
@@ -104,7 +104,7 @@ module _ (g : Regs) where
   pub write-seven : (v : ℕ) → Seventh (afterWrite g 7 v)
   unfolding afterWrite seventhWritten
   write-seven v =
-      pick-of Seventh (eqb (sub g) 0) (λ _. search refl) (λ _. pick-of Seventh (eqb (sub g) 1) (λ _. search refl) (λ _. search refl))
+      pick-of Seventh (eqb (sub g) 0) (λ _. search) (λ _. pick-of Seventh (eqb (sub g) 1) (λ _. search) (λ _. search))
 
   pub write-id : (v : ℕ) → (afterWrite g 7 v) .id ≡ pick (writesId g 7) v (g .id)
   unfolding afterWrite seventhWritten writesId
@@ -115,26 +115,26 @@ module _ (g : Regs) where
   -- ---- what the line does
   pub kept-burst : Kept g (burst g)
   unfolding burst
-  kept-burst = search refl
+  kept-burst = search
 
   pub kept-heard : (t : Bool) → Kept g (heard g t)
   unfolding heard
-  kept-heard t = search refl
+  kept-heard t = search
 
   pub kept-answered : (n : ℕ) (t : Bool) → Kept g (answered g n t)
   unfolding answered
-  kept-answered n t = search refl
+  kept-answered n t = search
 
   pub kept-sent : (a : Bool) → Kept g (sent g a)
   unfolding sent
-  kept-sent a = search refl
+  kept-sent a = search
 
   pub kept-received : Kept g (received g)
   unfolding received
-  kept-received = search refl
+  kept-received = search
 
   kept-transmit : Kept g (transmitCancelled g)
-  kept-transmit = pick-of (Kept g) (clear CANCEL (g .transmit)) (λ _. kept-same g) (λ _. search refl)
+  kept-transmit = pick-of (Kept g) (clear CANCEL (g .transmit)) (λ _. kept-same g) (λ _. search)
 
 pub kept-cancelled : (g : Regs) → Kept g (cancelled g)
 unfolding cancelled
@@ -152,7 +152,7 @@ pub record Recovered (g h : Regs) : Type 0 where
 
 pub is-recovered : (g : Regs) → Recovered g (recovered g)
 unfolding recovered
-is-recovered g = search refl
+is-recovered g = search
 
 pub record Risen (g h : Regs) : Type 0 where
   pub id : h .id ≡ g .id
@@ -162,4 +162,4 @@ pub record Risen (g h : Regs) : Type 0 where
 
 pub is-risen : (g : Regs) → Risen g (risenNid g)
 unfolding risenNid
-is-risen g = search refl
+is-risen g = search

@@ -6,11 +6,11 @@ use Prim.Native.Nat.{ℕ}
 use lib.Dec.{eqb}
 use Rattle.card.specs.declared.regs.Regs.{Regs}
 use Rattle.card.specs.Words.{pick}
-use Rattle.card.specs.Numbers.{numberOf}
+use Rattle.card.specs.Numbers.{refuse}
 use Rattle.card.specs.Row.{regsOf, putRegs, awake, onLine}
 use Rattle.card.specs.Commands.{commandOf}
-use Rattle.card.specs.Registers.{hardwareReset, configured, commanded, seventhWritten, afterWrite}
-use Rattle.card.specs.Refusals.{writeCases, writeNumber}
+use Rattle.card.specs.Registers.{hardwareReset, configured, commanded, writesId, seventhWritten, afterWrite}
+use Rattle.card.specs.Refusals.{noRegister, badValue, writeRefusals, writeNumber}
 use Rattle.card.specs.Access.{freshRow}
 
 pub regs-fresh : regsOf freshRow ≡ hardwareReset
@@ -35,11 +35,11 @@ joined i long receive = afterWrite (opened i long receive) 6 0x38
 
 -- none of the five is refused, the card is off line until the last, and then on line with the ID
 pub record Loads (i : ℕ) (long receive : Bool) : Type 0 where
-  pub prepares : writeNumber hardwareReset 6 0x19 false false ≡ 0
-  pub names : writeNumber prepared 7 i false false ≡ 0
-  pub sizes : writeNumber (named i) 1 0x0d false false ≡ 0
-  pub opens : writeNumber (sized i long) 1 0x84 false false ≡ 0
-  pub joins : writeNumber (opened i long receive) 6 0x38 false false ≡ 0
+  pub prepares : writeNumber hardwareReset 6 0x19 ≡ 0
+  pub names : writeNumber prepared 7 i ≡ 0
+  pub sizes : writeNumber (named i) 1 0x0d ≡ 0
+  pub opens : writeNumber (sized i long) 1 0x84 ≡ 0
+  pub joins : writeNumber (opened i long receive) 6 0x38 ≡ 0
   pub prepared-off : onLine prepared ≡ false
   pub named-off : onLine (named i) ≡ false
   pub sized-off : onLine (sized i long) ≡ false
@@ -48,8 +48,8 @@ pub record Loads (i : ℕ) (long receive : Bool) : Type 0 where
   pub id : joined i long receive .id ≡ i
 
 pub loads : (i : ℕ) → eqb i 0 ≡ false → (long receive : Bool) → Loads i long receive
-unfolding hardwareReset afterWrite configured seventhWritten commanded commandOf writeCases numberOf awake onLine
-loads i n true true = search (refl, n)
-loads i n true false = search (refl, n)
-loads i n false true = search (refl, n)
-loads i n false false = search (refl, n)
+unfolding hardwareReset afterWrite configured seventhWritten commanded commandOf writesId noRegister badValue writeRefusals refuse awake onLine
+loads i n true true = search n
+loads i n true false = search n
+loads i n false true = search n
+loads i n false false = search n

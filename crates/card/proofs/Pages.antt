@@ -14,10 +14,9 @@ use Rattle.card.specs.declared.packets.Shape.{Shape}
 use Rattle.card.specs.declared.packets.Shape.the-variants.{Malformed, Short, Long}
 use Rattle.card.specs.declared.packets.Packet.{Packet}
 use Rattle.card.specs.Words.{pick, clear}
-use Rattle.card.specs.CaseFields.{with-value}
-use Rattle.card.specs.Numbers.{none, numberOf}
+use Rattle.card.specs.Numbers.{VALUE, DONE, refuse}
 use Rattle.card.specs.Row.{rowBytes, regsOf}
-use Rattle.card.specs.Packets.{shapeOf, dataBytes, dataAt, headBytes, pageBytes, pageAt, pageShape, pageData, dataNumber, malformed, laid, headOf, dataOf, stored, stamped}
+use Rattle.card.specs.Packets.{shapeOf, dataBytes, dataAt, headBytes, pageBytes, pageAt, pageShape, pageData, dataRefusals, dataNumber, malformed, laid, headOf, dataOf, stored, stamped}
 use Rattle.card.proofs.Bools.{cases}
 use Rattle.card.proofs.Laid.{length-part, length-laid, laid-below, laid-within, laid-above, laid-back}
 use Rattle.card.proofs.Sizes.{data-end, head-most, head-least, data-least, page-most, page-count, data-fits}
@@ -81,16 +80,15 @@ module _ (r : List ℕ) (p : ℕ) (k : Packet) (f : pageAt p + pageBytes (k .sha
       ∙ laid-above _ (headOf k) r head-room i (omega (arith, head-length))
 
   -- data and head stand at their offsets of the packet
-  pub stored-data : (i : ℕ) → dataAt (k .shape) ≤ i → i < pageBytes (k .shape) → getD (stored r p k) (pageAt p + i) 0 ≡ getD (k .bytes) i 0
+  data-at : (j : ℕ) → j < dataBytes (k .shape) → getD (stored r p k) (pageAt p + dataAt (k .shape) + j) 0 ≡ getD (k .bytes) (dataAt (k .shape) + j) 0
   unfolding stored
+  data-at j h = laid-within _ (dataOf k) headed data-room j (omega (arith, data-length)) ∙ rw (getD-take, getD-drop)
+
+  pub stored-data : (i : ℕ) → dataAt (k .shape) ≤ i → i < pageBytes (k .shape) → getD (stored r p k) (pageAt p + i) 0 ≡ getD (k .bytes) i 0
   stored-data i g h =
-      let j : ℕ = i - dataAt (k .shape) in
-      let e : pageAt p + dataAt (k .shape) + j ≡ pageAt p + i = omega arith in
-      let e' : dataAt (k .shape) + j ≡ i = omega arith in
-      let q : j < dataBytes (k .shape) = omega (arith, data-end (k .shape) b) in
-      ap (λ (x : ℕ). getD (stored r p k) x 0) (sym e)
-      ∙ laid-within _ (dataOf k) headed data-room j (omega (arith, data-length))
-      ∙ rw (getD-take, getD-drop, e')
+      let e : pageAt p + dataAt (k .shape) + (i - dataAt (k .shape)) ≡ pageAt p + i = omega arith in
+      let f : dataAt (k .shape) + (i - dataAt (k .shape)) ≡ i = omega arith in
+      rw (e, f) at (data-at (i - dataAt (k .shape)) (omega (arith, data-end (k .shape) b)))
 
   pub stored-head : (i : ℕ) → i < headBytes (k .shape) → getD (stored r p k) (pageAt p + i) 0 ≡ getD (k .bytes) i 0
   unfolding stored
@@ -124,7 +122,7 @@ module _ (r : List ℕ) (p : ℕ) (k : Packet) (f : pageAt p + pageBytes (k .sha
 -- a refusal gives a stretch of length 0, and nothing else does
 pub data-empty : (r : List ℕ) (p : ℕ) → length r ≡ rowBytes → ((i : ℕ) → getD r i 0 < 256)
     → ((dataNumber r p ≡ 0 → ⊥) → length (pageData r p) ≡ 0) × (length (pageData r p) ≡ 0 → dataNumber r p ≡ 0 → ⊥)
-unfolding dataNumber pageData numberOf
+unfolding dataRefusals pageData refuse
 data-empty r p l b = split (ltb 3 p) refl (pageShape r p) refl
   where
     filled : p < 4 → (s : Shape) → pageShape r p ≡ s → malformed s ≡ false → length (take (dataBytes s) (drop (pageAt p + dataAt s) r)) ≡ 0 → ⊥
@@ -132,8 +130,8 @@ data-empty r p l b = split (ltb 3 p) refl (pageShape r p) refl
         omega (arith, length-part (pageAt p + dataAt s) (dataBytes s) r (omega (arith, data-fits r p h s (sym e) b)), data-least s m (page-count r p h s (sym e) b))
 
     split : (t : Bool) → ltb 3 p ≡ t → (s : Shape) → pageShape r p ≡ s
-        → ((numberOf (with-value (t || malformed s) none) ≡ 0 → ⊥) → length (pick t [] (take (dataBytes s) (drop (pageAt p + dataAt s) r))) ≡ 0)
-        × (length (pick t [] (take (dataBytes s) (drop (pageAt p + dataAt s) r))) ≡ 0 → numberOf (with-value (t || malformed s) none) ≡ 0 → ⊥)
+        → ((refuse DONE VALUE (t || malformed s) ≡ 0 → ⊥) → length (pick t [] (take (dataBytes s) (drop (pageAt p + dataAt s) r))) ≡ 0)
+        × (length (pick t [] (take (dataBytes s) (drop (pageAt p + dataAt s) r))) ≡ 0 → refuse DONE VALUE (t || malformed s) ≡ 0 → ⊥)
     split true et s es = (λ n. refl, λ z n. omega arith)
     split false et Malformed es = (λ n. refl, λ z n. omega arith)
     split false et (Short c) es = (λ n. absurd (n refl), λ z n. filled (omega (arith, ltb-false)) (Short c) es refl z)

@@ -1,12 +1,11 @@
 -- A well-formed row stays well formed and as long, through every call on its bytes.
 -- Assumes nothing.
 use mathlib.Core.Path.{_≡_, refl, _∙_}
-use mathlib.Core.Bool.{Bool, true, false}
+use mathlib.Core.Bool.{true, false}
 use mathlib.Core.List.{List}
 use mathlib.Core.Logic.{inl}
 use Prim.Native.Nat.{ℕ, _+_, _≤_, _<_}
 use native.Mathlib.Omega.{arith}
-use borrow.Author.Tests.{eqb-true}
 use lib.Dec.{eqb}
 use lib.ListN.{length, set, length-set}
 use lib.Seq.{getD-set-other}
@@ -14,7 +13,7 @@ use Rattle.card.specs.declared.regs.Regs.{Regs}
 use Rattle.card.specs.declared.packets.Packet.{Packet}
 use Rattle.card.specs.Row.{registerBytes, rowBytes, regsOf, putRegs, marked, zeros, awake, onLine, fit, wellFormed}
 use Rattle.card.specs.Registers.{afterRead, afterWrite, hardwareReset}
-use Rattle.card.specs.Refusals.{readNumber, writeNumber}
+use Rattle.card.specs.Refusals.{writeNumber}
 use Rattle.card.specs.Access.{pointed, rowAfterRead, ramWritten, rowAfterWrite, rowAfterReset, freshRow}
 use Rattle.card.specs.Packets.{dataAt, pageBytes, pageAt, stored, stamped}
 use Rattle.card.proofs.Bools.{pick-of}
@@ -39,13 +38,11 @@ fresh-off = refl
 module _ (r : List ℕ) (l : length r ≡ rowBytes) where
   pub length-read : (k : ℕ) → length (rowAfterRead r k) ≡ rowBytes
   unfolding rowAfterRead
-  length-read k = pick-of (λ (x : List ℕ). length x ≡ rowBytes) (eqb (readNumber (regsOf r) k) 0) (λ _. length-put r _ ∙ l) (λ _. l)
+  length-read k = length-put r _ ∙ l
 
-  pub length-write : (k v : ℕ) (o d : Bool) → length (rowAfterWrite r k v o d) ≡ rowBytes
+  pub length-write : (k v : ℕ) → length (rowAfterWrite r k v) ≡ rowBytes
   unfolding rowAfterWrite
-  length-write k v o d =
-      pick-of (λ (x : List ℕ). length x ≡ rowBytes) (eqb (writeNumber (regsOf r) k v o d) 0)
-      (λ _. length-put (ramWritten r k (pointed r) v) _ ∙ length-ram r k (pointed r) v ∙ l) (λ _. l)
+  length-write k v = length-put (ramWritten r k (pointed r) v) _ ∙ length-ram r k (pointed r) v ∙ l
 
   -- a byte of the RAM is written
   pub well-set : (i v : ℕ) → registerBytes ≤ i → wellFormed (set r i v) ≡ wellFormed r
@@ -74,19 +71,17 @@ module _ (r : List ℕ) (l : length r ≡ rowBytes) where
 
     pub well-read : (k : ℕ) → wellFormed (rowAfterRead r k) ≡ true
     unfolding rowAfterRead
-    well-read k =
-        pick-of (λ (x : List ℕ). wellFormed x ≡ true) (eqb (readNumber (regsOf r) k) 0)
-        (λ _. well-regs (afterRead (regsOf r) k) (keep-read (regsOf r) fits k)) (λ _. w)
+    well-read k = well-regs (afterRead (regsOf r) k) (keep-read (regsOf r) fits k)
 
     ram-well : (k v : ℕ) → wellFormed (ramWritten r k (pointed r) v) ≡ true
     ram-well k v = pick-of (λ (x : List ℕ). wellFormed x ≡ true) (eqb k 4) (λ _. well-set (pointed r) v (omega arith) ∙ w) (λ _. w)
 
-    pub well-write : (k v : ℕ) (o d : Bool) → wellFormed (rowAfterWrite r k v o d) ≡ true
+    -- a write that is not refused
+    pub well-write : (k v : ℕ) → writeNumber (regsOf r) k v ≡ 0 → wellFormed (rowAfterWrite r k v) ≡ true
     unfolding rowAfterWrite
-    well-write k v o d =
-        pick-of (λ (x : List ℕ). wellFormed x ≡ true) (eqb (writeNumber (regsOf r) k v o d) 0)
-        (λ e. well-put (ramWritten r k (pointed r) v) (afterWrite (regsOf r) k v) (omega (arith, length-ram r k (pointed r) v)) (ram-well k v)
-        (rules-fit _ (keep-write (regsOf r) fits k v o d (eqb-true _ _ e)))) (λ _. w)
+    well-write k v e =
+        well-put (ramWritten r k (pointed r) v) (afterWrite (regsOf r) k v) (omega (arith, length-ram r k (pointed r) v)) (ram-well k v)
+        (rules-fit _ (keep-write (regsOf r) fits k v e))
 
     pub well-stamped : (p : ℕ) → wellFormed (stamped r p) ≡ true
     unfolding stamped

@@ -1,7 +1,7 @@
 -- What a register access leaves of a row: a RAM and an ID of bytes, its NID, and, where it is a read, who it is.
 -- Assumes nothing.
 use mathlib.Core.Path.{_≡_}
-use mathlib.Core.Bool.{Bool, true, false}
+use mathlib.Core.Bool.{true, false}
 use mathlib.Core.List.{List}
 use mathlib.Core.Logic.{⊎-elim}
 use Prim.Native.Nat.{ℕ, _<_}
@@ -12,13 +12,12 @@ use lib.ListN.{length}
 use Rattle.card.specs.declared.regs.Regs.{Regs}
 use Rattle.card.specs.Row.{rowBytes, regsOf}
 use Rattle.card.specs.Registers.{afterRead, hardwareReset, writesId, afterWrite}
-use Rattle.card.specs.Refusals.{readNumber, writeNumber}
 use Rattle.card.specs.Access.{pointed, rowAfterRead, ramWritten, rowAfterWrite}
 use Rattle.card.proofs.Bools.{cases, pick-of}
 use Rattle.card.proofs.Rows.{regs-put}
 use Rattle.card.proofs.PacketLaws.{Ram}
 use Rattle.card.proofs.Rams.{ram-put, ram-set}
-use Rattle.card.proofs.Kept.{Kept, kept-same, kept-read, kept-write, write-six, write-seven, write-id}
+use Rattle.card.proofs.Kept.{Kept, kept-read, kept-write, write-six, write-seven, write-id}
 
 -- ---- the registers
 pub reset-id : hardwareReset .id < 256
@@ -44,17 +43,14 @@ module _ (g : Regs) (k v : ℕ) where
 -- ---- the row
 pub kept-row : (r : List ℕ) → length r ≡ rowBytes → (k : ℕ) → Kept (regsOf r) (regsOf (rowAfterRead r k))
 unfolding rowAfterRead
-kept-row r l k =
-    pick-of (λ (x : List ℕ). Kept (regsOf r) (regsOf x)) (eqb (readNumber (regsOf r) k) 0)
-    (λ _. rw (regs-put r (afterRead (regsOf r) k) (omega arith)) (kept-read (regsOf r) k)) (λ _. kept-same (regsOf r))
+kept-row r l k = rw (regs-put r (afterRead (regsOf r) k) (omega arith)) (kept-read (regsOf r) k)
 
 module _ (r : List ℕ) (b : Ram r) (k : ℕ) where
   pub ram-read : Ram (rowAfterRead r k)
   unfolding rowAfterRead
-  ram-read = pick-of Ram (eqb (readNumber (regsOf r) k) 0) (λ _. ram-put r b (afterRead (regsOf r) k)) (λ _. b)
+  ram-read = ram-put r b (afterRead (regsOf r) k)
 
-  pub ram-write : (v : ℕ) (o d : Bool) → v < 256 → Ram (rowAfterWrite r k v o d)
+  pub ram-write : (v : ℕ) → v < 256 → Ram (rowAfterWrite r k v)
   unfolding rowAfterWrite
-  ram-write v o d h =
-      let m : Ram (ramWritten r k (pointed r) v) = pick-of Ram (eqb k 4) (λ _. ram-set r b (pointed r) v h) (λ _. b) in
-      pick-of Ram (eqb (writeNumber (regsOf r) k v o d) 0) (λ _. ram-put (ramWritten r k (pointed r) v) m (afterWrite (regsOf r) k v)) (λ _. b)
+  ram-write v h =
+      ram-put (ramWritten r k (pointed r) v) (pick-of Ram (eqb k 4) (λ _. ram-set r b (pointed r) v h) (λ _. b)) (afterWrite (regsOf r) k v)

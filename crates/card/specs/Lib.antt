@@ -1,5 +1,4 @@
 pub mod Words
-pub mod CaseFields
 pub mod Numbers
 pub mod Flags
 pub mod Fields

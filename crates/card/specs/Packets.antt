@@ -1,7 +1,7 @@
 -- Document 01, "Packets" (001, 000): the shape of a page, the reader, and storing a packet in another page.
 -- Assumes nothing.
 use mathlib.Core.Bool.{Bool, true, false, _&&_, _||_}
-use mathlib.Core.List.{List, [], _++_}
+use mathlib.Core.List.{List, [], _∷_, _++_}
 use mathlib.Core.Logic.{_⊎_}
 use Prim.Native.Nat.{ℕ, _+_, _-_, _*_, _≤_}
 use lib.Dec.{eqb, leb, ltb}
@@ -10,8 +10,7 @@ use Rattle.card.specs.declared.packets.Shape.{Shape}
 use Rattle.card.specs.declared.packets.Shape.the-variants.{Malformed, Short, Long}
 use Rattle.card.specs.declared.packets.Packet.{Packet}
 use Rattle.card.specs.Words.{pick, clear}
-use Rattle.card.specs.CaseFields.{with-value}
-use Rattle.card.specs.Numbers.{none, numberOf}
+use Rattle.card.specs.Numbers.{VALUE, Refusal, _when_, told}
 use Rattle.card.specs.Row.{registerBytes, regsOf}
 
 -- "COUNT 3-255: .. COUNT 0, with long packets 1 and an even page: byte 3 is COUNT, 4-255 .. All else is malformed": of the byte
@@ -63,8 +62,11 @@ malformed (Short c) = false
 malformed (Long c) = false
 
 -- "4 VALUE: .. reader: page above 3 or malformed"
-unfoldable pub dataNumber : List ℕ → ℕ → ℕ
-dataNumber r p = numberOf (with-value (ltb 3 p || malformed (pageShape r p)) none)
+unfoldable pub dataRefusals : List ℕ → ℕ → List Refusal
+dataRefusals r p = VALUE when (ltb 3 p || malformed (pageShape r p)) ∷ []
+
+abbrev pub dataNumber : List ℕ → ℕ → ℕ
+dataNumber r p = told (dataRefusals r p)
 
 -- "A reader asks for the data of a page of a row and gets back that stretch ..; a refusal gives a stretch of length 0"
 unfoldable pub pageData : List ℕ → ℕ → List ℕ

@@ -1,22 +1,21 @@
--- Document 01, "Numbers a caller may get": when each case of a register access holds.
+-- Document 01, "Numbers a caller may get": the refusals of a register access.
 -- Assumes nothing.
 use mathlib.Core.Bool.{Bool, true, false, not, _&&_, _||_}
+use mathlib.Core.List.{List, [], _∷_}
 use Prim.Native.Nat.{ℕ}
 use lib.Dec.{eqb, ltb}
 use Rattle.card.specs.declared.regs.Regs.{Regs}
 use Rattle.card.specs.declared.commands.Command.{Command}
 use Rattle.card.specs.declared.commands.Command.the-variants.{Illegal, DisableTransmitter, DisableReceiver, EnableTransmit, EnableReceive, LongPackets, ClearFlags}
-use Rattle.card.specs.declared.numbers.Cases.{Cases}
 use Rattle.card.specs.Words.{clear, has}
 use Rattle.card.specs.Flags.{RI, TA, RDDATA, only, maskBits, configurationBits, setupBits, modeBits}
-use Rattle.card.specs.CaseFields.{with-register, with-value, with-notready, with-direction, with-busy, with-online, with-page, with-duplicate}
-use Rattle.card.specs.Numbers.{none, numberOf}
-use Rattle.card.specs.Row.{awake}
+use Rattle.card.specs.Numbers.{REGISTER, VALUE, NOTREADY, DIRECTION, BUSY, ONLINE, PAGE, Refusal, _when_, told}
+use Rattle.card.specs.Row.{awake, onLine}
 use Rattle.card.specs.Commands.{commandOf}
-use Rattle.card.specs.Registers.{sub}
+use Rattle.card.specs.Registers.{sub, writesId}
 
 -- "3 REGISTER: above 7; 5; 7 with sub-address 11; write of 7 and read of 7 alike"
-abbrev pub noRegister : Regs → ℕ → Bool
+unfoldable pub noRegister : Regs → ℕ → Bool
 noRegister g k = ltb 7 k || eqb k 5 || eqb k 7 && eqb (sub g) 3
 
 abbrev pub illegal : Command → Bool
@@ -29,7 +28,7 @@ illegal (LongPackets l) = false
 illegal (ClearFlags p r) = false
 
 -- "4 VALUE: unnamed bit, CCHEN, illegal command"
-abbrev pub badValue : Regs → ℕ → ℕ → Bool
+unfoldable pub badValue : Regs → ℕ → ℕ → Bool
 badValue g k v =
     eqb k 0 && not (only maskBits v) || eqb k 1 && illegal (commandOf v) || eqb k 2 && not (only modeBits v)
     || eqb k 6 && not (only configurationBits v)
@@ -56,21 +55,22 @@ oddPage g (LongPackets l) = false
 oddPage g (ClearFlags p r) = false
 
 -- "6 DIRECTION: register 4 read with RDDATA 0 .."
-unfoldable pub readCases : Regs → ℕ → Cases
-readCases g k = with-register (noRegister g k) (with-direction (eqb k 4 && clear RDDATA (g .mode)) none)
+unfoldable pub readRefusals : Regs → ℕ → List Refusal
+readRefusals g k = REGISTER when noRegister g k ∷ DIRECTION when (eqb k 4 && clear RDDATA (g .mode)) ∷ []
 
--- ".. or written with 1"; "5 NOTREADY: command to a row not awake". ONLINE and DUPLICATE are the network's to say
-unfoldable pub writeCases : Regs → ℕ → ℕ → Bool → Bool → Cases
-writeCases g k v online duplicate =
-    with-register (noRegister g k)
-    (with-value (badValue g k v)
-    (with-notready (eqb k 1 && not (awake g))
-    (with-direction (eqb k 4 && has RDDATA (g .mode))
-    (with-busy (eqb k 1 && busy g (commandOf v))
-    (with-online online (with-page (eqb k 1 && oddPage g (commandOf v)) (with-duplicate duplicate none)))))))
+-- ".. or written with 1"; "5 NOTREADY: command to a row not awake"; "8 ONLINE: node ID write to an on-line row"
+unfoldable pub writeRefusals : Regs → ℕ → ℕ → List Refusal
+writeRefusals g k v =
+    REGISTER when noRegister g k
+    ∷ VALUE when badValue g k v
+    ∷ NOTREADY when (eqb k 1 && not (awake g))
+    ∷ DIRECTION when (eqb k 4 && has RDDATA (g .mode))
+    ∷ BUSY when (eqb k 1 && busy g (commandOf v))
+    ∷ ONLINE when (onLine g && writesId g k)
+    ∷ PAGE when (eqb k 1 && oddPage g (commandOf v)) ∷ []
 
 abbrev pub readNumber : Regs → ℕ → ℕ
-readNumber g k = numberOf (readCases g k)
+readNumber g k = told (readRefusals g k)
 
-abbrev pub writeNumber : Regs → ℕ → ℕ → Bool → Bool → ℕ
-writeNumber g k v online duplicate = numberOf (writeCases g k v online duplicate)
+abbrev pub writeNumber : Regs → ℕ → ℕ → ℕ
+writeNumber g k v = told (writeRefusals g k v)

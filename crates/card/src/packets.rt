@@ -4,8 +4,10 @@ ghost use Prim.Native.Nat.{_+_, _≤_, _<_};
 ghost use lib.ListN.{length};
 ghost use Rattle.card.specs.Row.{rowBytes};
 ghost use Rattle.card.specs.Packets.{shapeOf, dataBytes, dataAt, headBytes, pageBytes, pageAt, malformed, pageShape, destination, dataNumber, pageData, packetAt, stored, stamped};
-use crate::numbers::Cases;
-use crate::row::REGISTERS;
+use crate::numbers::DONE;
+use crate::numbers::VALUE;
+use crate::numbers::refuse;
+use crate::row::REGISTER_BYTES;
 use crate::row::load;
 
 // What a page holds, and the COUNT byte of a packet: the page offset at which its data start.
@@ -94,7 +96,7 @@ fn page_at(page: usize) -> usize
     requires { ⌜ page < 4 ⌝ }
     ensures { λ r. ⌜ r ≡ pageAt page ⌝ }
 {
-    REGISTERS + 256 * page
+    REGISTER_BYTES + 256 * page
 }
 
 pub fn page_shape(row: &[u8], page: usize) -> Shape
@@ -136,13 +138,10 @@ pub fn data_number(row: &[u8], page: usize) -> u8
     requires { ⌜ length (now row) ≡ rowBytes ⌝ }
     ensures { λ r. ⌜ r ≡ dataNumber (now (row .entry)) page ⌝ }
 {
-    let mut cases = Cases::none();
     if 3 < page {
-        cases.value = true;
-        return cases.number();
+        return VALUE;
     }
-    cases.value = page_shape(row, page).malformed();
-    cases.number()
+    refuse(DONE, VALUE, page_shape(row, page).malformed())
 }
 
 // The packet of a page is read out of the row.
@@ -167,7 +166,7 @@ pub fn store_packet(row: &mut [u8], page: usize, packet: Packet)
 {
     let shape = packet.shape;
     let bytes = packet.bytes;
-    let at = REGISTERS + 256 * page;
+    let at = REGISTER_BYTES + 256 * page;
     let head = shape.head_bytes();
     bytes::copy(&bytes[0..head], &mut row[at..at + head]);
     let from = shape.data_at();

@@ -2,11 +2,20 @@
 ghost use mathlib.Core.Path.{_≡_};
 ghost use Rattle.card.specs.Row.{awake, onLine, fit};
 ghost use Rattle.card.specs.Registers.{sub, pointer, stepped, seventh, readValue, afterRead, hardwareReset, configured, interrupt, commanded, writesId, seventhWritten, afterWrite};
-ghost use Rattle.card.specs.Refusals.{noRegister, badValue, busy, oddPage, readCases, writeCases};
+ghost use Rattle.card.specs.Numbers.{told};
+ghost use Rattle.card.specs.Refusals.{noRegister, badValue, busy, oddPage, readRefusals, writeRefusals};
 use crate::commands::Command;
 use crate::commands::decode;
-use crate::numbers::Cases;
+use crate::numbers::BUSY;
+use crate::numbers::DIRECTION;
+use crate::numbers::DONE;
+use crate::numbers::NOTREADY;
+use crate::numbers::ONLINE;
+use crate::numbers::PAGE;
+use crate::numbers::REGISTER;
+use crate::numbers::VALUE;
 use crate::numbers::choose;
+use crate::numbers::refuse;
 
 pub const RI: u8 = 1 << 7;
 
@@ -328,7 +337,7 @@ impl Regs {
     }
 
     // REGISTER: no such register, or none at this sub-address.
-    fn no_register(self, register: usize) -> bool
+    pub fn no_register(self, register: usize) -> bool
         ensures { λ r. ⌜ r ≡ noRegister self register ⌝ }
     {
         (7 < register) | (register == 5) | (register == 7) & (self.sub_address() == 3)
@@ -375,28 +384,25 @@ impl Regs {
         }
     }
 
-    pub fn read_cases(self, register: usize) -> Cases
-        ensures { λ r. ⌜ r ≡ readCases self register ⌝ }
+    // What a read of a register is refused with.
+    pub fn read_number(self, register: usize) -> u8
+        ensures { λ r. ⌜ r ≡ told (readRefusals self register) ⌝ }
     {
-        let mut cases = Cases::none();
-        cases.register = self.no_register(register);
-        cases.direction = (register == 4) & (self.mode & RDDATA == 0);
-        cases
+        let n = refuse(DONE, REGISTER, self.no_register(register));
+        refuse(n, DIRECTION, (register == 4) & (self.mode & RDDATA == 0))
     }
 
-    pub fn write_cases(self, register: usize, value: u8, online: bool, duplicate: bool) -> Cases
-        ensures { λ r. ⌜ r ≡ writeCases self register value online duplicate ⌝ }
+    // What a write of a register is refused with.
+    pub fn write_number(self, register: usize, value: u8) -> u8
+        ensures { λ r. ⌜ r ≡ told (writeRefusals self register value) ⌝ }
     {
         let command = decode(value);
-        let mut cases = Cases::none();
-        cases.register = self.no_register(register);
-        cases.value = self.bad_value(register, value);
-        cases.notready = (register == 1) & !self.awake();
-        cases.direction = (register == 4) & (self.mode & RDDATA != 0);
-        cases.busy = (register == 1) & self.busy(command);
-        cases.online = online;
-        cases.page = (register == 1) & self.odd_page(command);
-        cases.duplicate = duplicate;
-        cases
+        let n = refuse(DONE, REGISTER, self.no_register(register));
+        let n = refuse(n, VALUE, self.bad_value(register, value));
+        let n = refuse(n, NOTREADY, (register == 1) & !self.awake());
+        let n = refuse(n, DIRECTION, (register == 4) & (self.mode & RDDATA != 0));
+        let n = refuse(n, BUSY, (register == 1) & self.busy(command));
+        let n = refuse(n, ONLINE, self.on_line() & self.writes_id(register));
+        refuse(n, PAGE, (register == 1) & self.odd_page(command))
     }
 }

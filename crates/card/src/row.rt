@@ -3,22 +3,15 @@ ghost use mathlib.Core.Path.{_≡_};
 ghost use Prim.Native.Nat.{_<_};
 ghost use lib.ListN.{length, replicate};
 ghost use Rattle.card.specs.Row.{rowBytes, regsOf, putRegs, zeros, wellFormed};
-ghost use Rattle.card.specs.Refusals.{writeNumber};
-ghost use Rattle.card.specs.Access.{reading, rowAfterRead, ramWritten, rowAfterWrite, rowAfterReset, freshRow};
+ghost use Rattle.card.specs.Access.{valueRead, rowAfterRead, ramWritten, rowAfterWrite, rowAfterReset, freshRow};
 use crate::regs::Regs;
 
-pub const REGISTERS: usize = 64;
+pub const REGISTER_BYTES: usize = 64;
 
-pub const ROW: usize = 1088;
+pub const ROW_BYTES: usize = 1088;
 
 // The fixed bytes that each row begins with.
 const MARK: [u8; 2] = *b"\x4e\x44";
-
-// What a read gives: the refusal's number, 0 for none, and the value, 0 beside a refusal.
-pub struct Reading {
-    pub number: u8,
-    pub value: u8,
-}
 
 pub fn load(row: &[u8]) -> Regs
     requires { ⌜ length (now row) ≡ rowBytes ⌝ }
@@ -94,7 +87,7 @@ pub fn well_formed(row: &[u8]) -> bool
     ensures { λ r. ⌜ r ≡ wellFormed (now (row .entry)) ⌝ }
 {
     let g = load(row);
-    ((row[0] == MARK[0]) & (row[1] == MARK[1])) & g.fit() & all_zero(&row[16..REGISTERS])
+    ((row[0] == MARK[0]) & (row[1] == MARK[1])) & g.fit() & all_zero(&row[16..REGISTER_BYTES])
 }
 
 // A new row, whatever the bytes were.
@@ -115,21 +108,17 @@ pub fn hardware_reset(row: &mut [u8])
     store(row, Regs::hardware_reset());
 }
 
-// A register of the card is read.
-pub fn read(row: &mut [u8], register: usize) -> Reading
+// A register of the card is read; `Regs::read_number` says whether it can be.
+pub fn read(row: &mut [u8], register: usize) -> u8
     requires { ⌜ length (now row) ≡ rowBytes ⌝ }
-    ensures answer { λ r. ⌜ r ≡ reading (now (row .entry)) register ⌝ }
+    ensures value { λ r. ⌜ r ≡ valueRead (now (row .entry)) register ⌝ }
     ensures bytes { λ _. ⌜ now (row .exit) ≡ rowAfterRead (now (row .entry)) register ⌝ }
 {
     let g = load(row);
-    let number = g.read_cases(register).number();
-    if number != 0 {
-        return Reading { number, value: 0 };
-    }
-    let at = REGISTERS + g.pointer();
+    let at = REGISTER_BYTES + g.pointer();
     let value = g.read_value(row[at], register);
     store(row, g.after_read(register));
-    Reading { number: 0, value }
+    value
 }
 
 // Register 4 writes the RAM byte at the pointer; the others write none.
@@ -142,18 +131,12 @@ fn write_ram(row: &mut [u8], register: usize, at: usize, value: u8)
     }
 }
 
-// A register of the card is written. Whether ONLINE and DUPLICATE hold is the network's to say.
-pub fn write(row: &mut [u8], register: usize, value: u8, online: bool, duplicate: bool) -> u8
+// A register of the card is written; `Regs::write_number` says whether it can be.
+pub fn write(row: &mut [u8], register: usize, value: u8)
     requires { ⌜ length (now row) ≡ rowBytes ⌝ }
-    ensures number { λ r. ⌜ r ≡ writeNumber (regsOf (now (row .entry))) register value online duplicate ⌝ }
-    ensures bytes { λ _. ⌜ now (row .exit) ≡ rowAfterWrite (now (row .entry)) register value online duplicate ⌝ }
+    ensures { λ _. ⌜ now (row .exit) ≡ rowAfterWrite (now (row .entry)) register value ⌝ }
 {
     let g = load(row);
-    let number = g.write_cases(register, value, online, duplicate).number();
-    if number != 0 {
-        return number;
-    }
-    write_ram(row, register, REGISTERS + g.pointer(), value);
+    write_ram(row, register, REGISTER_BYTES + g.pointer(), value);
     store(row, g.after_write(register, value));
-    0
 }

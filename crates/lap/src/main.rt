@@ -4,7 +4,7 @@ ghost use lib.ListN.{length};
 ghost use Prim.Native.Nat.{_+_, _*_, _≤_};
 ghost use Rattle.table.specs.Network.{rowLimit, rowStart};
 ghost use Rattle.desk.specs.Order.{recordBytes};
-use card::row::ROW;
+use card::row::ROW_BYTES;
 use desk::laps::Taker;
 use desk::laps::Walked;
 use desk::orders::RECORD;
@@ -17,7 +17,7 @@ use table::network::ROWS;
 // A byte more than the longest order, so that a longer one is seen to be too long.
 const ORDER: usize = RECORD * ROWS + 1;
 
-const NET: usize = HEADER + ROW * ROWS;
+const NET: usize = HEADER + ROW_BYTES * ROWS;
 
 fn refuse(number: u8) {
     print::text(b"REFUSED");
@@ -54,7 +54,7 @@ fn answer(order: &[u8], net: &mut [u8])
     requires { ⌜ length (now order) ≤ recordBytes * rowLimit + 1 ⌝ }
     requires { ⌜ rowStart rowLimit ≤ length (now net) ⌝ }
 {
-    let size = HEADER + ROW * records(order);
+    let size = HEADER + ROW_BYTES * records(order);
     let number = desk::loading::load(order, &mut net[0..size]);
     if number != 0 {
         refuse(number);

@@ -1,3 +1,4 @@
+pub mod Numbers
 pub mod Traffic
 pub mod Step
 pub mod Outcomes

@@ -1,18 +1,18 @@
 -- Document 01, "One line step": LOST, PASS, and the step itself.
 -- Assumes nothing.
 use mathlib.Core.Bool.{Bool, true, false, not, _&&_}
-use mathlib.Core.List.{List}
+use mathlib.Core.List.{List, [], _∷_}
 use Prim.Native.Nat.{ℕ}
 use lib.Dec.{eqb, ltb}
-use Rattle.card.specs.declared.numbers.Cases.{Cases}
 use Rattle.line.specs.declared.passes.Event.the-variants.{Recovery, Message, Taken}
 use Rattle.line.specs.declared.traffic.Outcome.{Outcome}
 use Rattle.line.specs.declared.step.Answer.{Answer}
 use Rattle.line.specs.declared.step.Answer.the-variants.{Refused, Quiet, Recovered, Passed, Unanswered, TokenLost, Held}
 use Rattle.card.specs.Words.{pick}
-use Rattle.card.specs.CaseFields.{with-shape, with-value, with-holder}
-use Rattle.card.specs.Numbers.{none, numberOf}
+use Rattle.card.specs.Numbers.{VALUE, Refusal, _when_, told}
 use Rattle.card.specs.Events.{risenNid}
+use Rattle.table.specs.Numbers.{SHAPE}
+use Rattle.line.specs.Numbers.{HOLDER}
 use Rattle.table.specs.Network.{rows, phase, holder, LOST, PASS, TAKEN, turned, regsAt, onLineAt, nodeOf, topId, shape}
 use Rattle.line.specs.Traffic.{Turn, onRow, happened, takenTurn}
 
@@ -55,11 +55,14 @@ stepTurn net fault =
     pick (eqb (phase net) LOST) (lostTurn net) (pick (eqb (phase net) PASS) (passTurn net fault) (held (takenTurn net (holder net) fault) (holder net)))
 
 -- "4 VALUE: fault above 3"; "11 HOLDER: line step in PASS or TAKEN, holder not on line"
-abbrev pub stepCases : (shape value holder : Bool) → Cases
-stepCases shape value holder = with-shape shape (with-value value (with-holder holder none))
+unfoldable pub stepRefusals : List ℕ → ℕ → List Refusal
+stepRefusals net fault =
+    SHAPE when not (shape net)
+    ∷ VALUE when ltb 3 fault
+    ∷ HOLDER when (not (eqb (phase net) LOST) && not (onLineAt net (holder net))) ∷ []
 
 unfoldable pub stepNumber : List ℕ → ℕ → ℕ
-stepNumber net fault = numberOf (stepCases (not (shape net)) (ltb 3 fault) (not (eqb (phase net) LOST) && not (onLineAt net (holder net))))
+stepNumber net fault = told (stepRefusals net fault)
 
 unfoldable pub step : List ℕ → ℕ → Turn Answer
 step net fault = pick (eqb (stepNumber net fault) 0) (stepTurn net fault) (record { answer = Refused (stepNumber net fault); after = net })

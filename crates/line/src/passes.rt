@@ -11,7 +11,7 @@ ghost use Rattle.table.specs.Network.{rowStart, eachRow, onRegs, rowsFit};
 ghost use Rattle.line.specs.Traffic.{happens, storedRow, carriedRow};
 use card::packets::Packet;
 use card::regs::Regs;
-use card::row::ROW;
+use card::row::ROW_BYTES;
 use table::network::HEADER;
 use table::network::regs_at;
 
@@ -54,8 +54,8 @@ pub(crate) fn happen(net: &mut [u8], n: usize, event: Event)
 {
     let mut k = 0;
     while k < n {
-        let a = HEADER + ROW * k;
-        happen_row(&mut net[a..a + ROW], k, event);
+        let a = HEADER + ROW_BYTES * k;
+        happen_row(&mut net[a..a + ROW_BYTES], k, event);
         k += 1;
     }
 }
@@ -85,8 +85,8 @@ pub(crate) fn carry(net: &mut [u8], n: usize, h: usize, to: usize, broadcast: bo
     while k < n {
         let g = regs_at(net, k);
         let takes = (k == to) | broadcast & (k != h) & g.takes_broadcasts();
-        let a = HEADER + ROW * k;
-        carry_row(&mut net[a..a + ROW], takes, packet);
+        let a = HEADER + ROW_BYTES * k;
+        carry_row(&mut net[a..a + ROW_BYTES], takes, packet);
         k += 1;
     }
 }

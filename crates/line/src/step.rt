@@ -3,12 +3,15 @@ ghost use mathlib.Core.Path.{_≡_};
 ghost use mathlib.Core.Bool.{true};
 ghost use Prim.Native.Nat.{_<_};
 ghost use Rattle.table.specs.Network.{rows, holder, shape};
-ghost use Rattle.line.specs.Step.{answerNumber, answerValue, lostTurn, passTurn, stepTurn, step};
+ghost use Rattle.line.specs.Step.{answerNumber, answerValue, lostTurn, passTurn, stepTurn, stepNumber, step};
+use crate::numbers::HOLDER;
 use crate::passes::Event;
 use crate::passes::happen;
 use crate::traffic::Outcome;
 use crate::traffic::taken;
-use card::numbers::Cases;
+use card::numbers::DONE;
+use card::numbers::VALUE;
+use card::numbers::refuse;
 use table::network::LOST;
 use table::network::PASS;
 use table::network::TAKEN;
@@ -22,6 +25,7 @@ use table::network::shape;
 use table::network::top_id;
 use table::network::turn;
 use table::network::wide;
+use table::numbers::SHAPE;
 
 // What a step answers. A row is given by its number, from 0; `Unanswered` names the ID that was invited.
 pub enum Answer {
@@ -127,20 +131,25 @@ pub fn step_on(net: &mut [u8], fault: usize) -> Answer
     Answer::Held(outcome)
 }
 
+// SHAPE, VALUE and HOLDER.
+fn step_number(net: &[u8], fault: usize) -> u8
+    ensures { λ r. ⌜ r ≡ stepNumber (now (net .entry)) fault ⌝ }
+{
+    if !shape(net) {
+        return SHAPE;
+    }
+    let n = refuse(DONE, VALUE, 3 < fault);
+    let on_line = regs_at(net, holder(net)).on_line();
+    refuse(n, HOLDER, (phase(net) != LOST) & !on_line)
+}
+
 // One line step.
 pub fn step(net: &mut [u8], fault: usize) -> Answer
     ensures answer { λ r. ⌜ r ≡ step (now (net .entry)) fault .answer ⌝ }
     ensures bytes { λ _. ⌜ now (net .exit) ≡ step (now (net .entry)) fault .after ⌝ }
 {
-    let mut cases = Cases::none();
-    if !shape(net) {
-        cases.shape = true;
-        return Answer::Refused(cases.number());
-    }
-    cases.value = 3 < fault;
-    cases.holder = (net[4] != LOST) & !regs_at(net, wide(net[5])).on_line();
-    let number = cases.number();
-    if number != 0 {
+    let number = step_number(net, fault);
+    if number != DONE {
         return Answer::Refused(number);
     }
     step_on(net, fault)

@@ -7,7 +7,7 @@ ghost use Rattle.line.specs.Traffic.{wentOut, asked, broadcastTurn, pack
 use crate::passes::Event;
 use crate::passes::carry;
 use crate::passes::happen;
-use card::row::ROW;
+use card::row::ROW_BYTES;
 use table::network::HEADER;
 use table::network::node_of;
 use table::network::put_regs;
@@ -35,8 +35,8 @@ fn send(net: &mut [u8], h: usize, page: usize, fault: usize, to: usize, broadcas
     ensures { λ _. ⌜ now (net .exit) ≡ wentOut (now (net .entry)) h page fault to broadcast ⌝ }
 {
     let n = rows(net);
-    let a = HEADER + ROW * h;
-    card::packets::stamp(&mut net[a..a + ROW], page);
+    let a = HEADER + ROW_BYTES * h;
+    card::packets::stamp(&mut net[a..a + ROW_BYTES], page);
     let packet = card::packets::packet_at(row_at(net, h), page);
     happen(net, n, Event::Message(h, false));
     if fault != 1 {

@@ -8,5 +8,4 @@ pub mod Beside
 pub mod Writes
 pub mod Calm
 pub mod Others
-pub mod OneOrder
 pub mod Refused

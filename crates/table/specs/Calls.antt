@@ -5,30 +5,39 @@ use mathlib.Core.List.{List, [], _∷_, _++_}
 use Prim.Native.Nat.{ℕ, zero, suc}
 use lib.Dec.{eqb, leb, ltb}
 use lib.ListN.{length, replicate}
-use Rattle.card.specs.declared.row.Reading.{Reading}
-use Rattle.card.specs.declared.numbers.Cases.{Cases}
+use Rattle.table.specs.declared.calls.Reading.{Reading}
 use Rattle.table.specs.declared.calls.Interrupting.{Interrupting}
 use Rattle.card.specs.Words.{pick}
-use Rattle.card.specs.CaseFields.{with-value, with-notready, with-room}
-use Rattle.card.specs.Numbers.{none, numberOf, placed}
+use Rattle.card.specs.Numbers.{VALUE, NOTREADY, Refusal, _when_, told}
 use Rattle.card.specs.Row.{onLine}
-use Rattle.card.specs.Registers.{interrupt, writesId, afterWrite}
-use Rattle.card.specs.Refusals.{writeNumber}
-use Rattle.card.specs.Access.{reading, rowAfterRead, rowAfterWrite, rowAfterReset, freshRow}
-use Rattle.card.specs.Packets.{dataNumber, pageData}
+use Rattle.card.specs.Registers.{interrupt, afterWrite}
+use Rattle.card.specs.Refusals.{readRefusals, writeRefusals}
+use Rattle.card.specs.Access.{valueRead, rowAfterRead, rowAfterWrite, rowAfterReset, freshRow}
+use Rattle.card.specs.Packets.{dataRefusals, pageData}
 use Rattle.card.specs.Events.{burst}
+use Rattle.table.specs.Numbers.{SHAPE, ROW, DUPLICATE, ROOM}
 use Rattle.table.specs.Network.{mark, rowLimit, rowStart, rows, phase, holder, LOST, turned, rowAt, setRow, onRegs, regsAt, onLineAt, nodeOf, shape}
 
--- "1 SHAPE", "2 ROW: row not below n"
+-- "1 SHAPE", "2 ROW: row not below n": the refusals of every call to a row, before its own
+unfoldable pub placeRefusals : List ℕ → ℕ → List Refusal
+placeRefusals net k = SHAPE when not (shape net) ∷ ROW when leb (rows net) k ∷ []
+
 unfoldable pub placeNumber : List ℕ → ℕ → ℕ
-placeNumber net k = numberOf (placed (not (shape net)) (leb (rows net) k) none)
+placeNumber net k = told (placeRefusals net k)
 
 -- ---- reading
+abbrev pub netReadRefusals : List ℕ → ℕ → ℕ → List Refusal
+netReadRefusals net k g = placeRefusals net k ++ readRefusals (regsAt net k) g
+
+unfoldable pub netReadNumber : List ℕ → ℕ → ℕ → ℕ
+netReadNumber net k g = told (netReadRefusals net k g)
+
+-- "A refusal returns 0 .. beside its number"
 unfoldable pub netReading : List ℕ → ℕ → ℕ → Reading
-netReading net k g = pick (eqb (placeNumber net k) 0) (reading (rowAt net k) g) (record { number = placeNumber net k; value = 0 })
+netReading net k g = record { number = netReadNumber net k g; value = pick (eqb (netReadNumber net k g) 0) (valueRead (rowAt net k) g) 0 }
 
 unfoldable pub netAfterRead : List ℕ → ℕ → ℕ → List ℕ
-netAfterRead net k g = pick (eqb (placeNumber net k) 0) (setRow net k (rowAfterRead (rowAt net k) g)) net
+netAfterRead net k g = pick (eqb (netReadNumber net k g) 0) (setRow net k (rowAfterRead (rowAt net k) g)) net
 
 -- ---- going on line and off line
 -- "A holder that goes off line leaves LOST"
@@ -43,36 +52,35 @@ settled net k was =
     (pick (was && isHolder net k) (turned net LOST 0) net)
 
 -- ---- writing
--- "8 ONLINE: node ID write to an on-line row"
-abbrev pub online : List ℕ → ℕ → ℕ → Bool
-online net k g = onLineAt net k && writesId (regsAt net k) g
-
 -- "10 DUPLICATE: a write would put a second on-line row on one ID"
-abbrev pub duplicate : List ℕ → ℕ → ℕ → ℕ → Bool
+unfoldable pub duplicate : List ℕ → ℕ → ℕ → ℕ → Bool
 duplicate net k g v =
     onLine (afterWrite (regsAt net k) g v) && ltb (nodeOf net (afterWrite (regsAt net k) g v .id) k (rows net)) (rows net)
 
-abbrev pub rowWriteNumber : List ℕ → ℕ → ℕ → ℕ → ℕ
-rowWriteNumber net k g v = writeNumber (regsAt net k) g v (online net k g) (duplicate net k g v)
+abbrev pub rowWriteRefusals : List ℕ → ℕ → ℕ → ℕ → List Refusal
+rowWriteRefusals net k g v = writeRefusals (regsAt net k) g v ++ (DUPLICATE when duplicate net k g v ∷ [])
+
+abbrev pub netWriteRefusals : List ℕ → ℕ → ℕ → ℕ → List Refusal
+netWriteRefusals net k g v = placeRefusals net k ++ rowWriteRefusals net k g v
 
 unfoldable pub netWriteNumber : List ℕ → ℕ → ℕ → ℕ → ℕ
-netWriteNumber net k g v = pick (eqb (placeNumber net k) 0) (rowWriteNumber net k g v) (placeNumber net k)
+netWriteNumber net k g v = told (netWriteRefusals net k g v)
 
 unfoldable pub netAfterWrite : List ℕ → ℕ → ℕ → ℕ → List ℕ
 netAfterWrite net k g v =
     pick (eqb (netWriteNumber net k g v) 0)
-    (settled (setRow net k (rowAfterWrite (rowAt net k) g v (online net k g) (duplicate net k g v))) k (onLineAt net k)) net
+    (settled (setRow net k (rowAfterWrite (rowAt net k) g v)) k (onLineAt net k)) net
 
 -- ---- hardware reset, timer, interrupt
 unfoldable pub netAfterReset : List ℕ → ℕ → List ℕ
 netAfterReset net k = pick (eqb (placeNumber net k) 0) (settled (setRow net k (rowAfterReset (rowAt net k))) k (onLineAt net k)) net
 
 -- "5 NOTREADY: .. timer on a row not on line"
-abbrev pub offLine : Bool → Cases
-offLine b = with-notready b none
+abbrev pub timerRefusals : List ℕ → ℕ → List Refusal
+timerRefusals net k = placeRefusals net k ++ (NOTREADY when not (onLineAt net k) ∷ [])
 
 unfoldable pub timerNumber : List ℕ → ℕ → ℕ
-timerNumber net k = numberOf (placed (not (shape net)) (leb (rows net) k) (offLine (not (onLineAt net k))))
+timerNumber net k = told (timerRefusals net k)
 
 -- "A row that comes on line bursts .. So does a timer expiry"
 unfoldable pub netAfterTimer : List ℕ → ℕ → List ℕ
@@ -80,15 +88,17 @@ netAfterTimer net k = pick (eqb (timerNumber net k) 0) (turned (setRow net k (on
 
 unfoldable pub netInterrupt : List ℕ → ℕ → Interrupting
 netInterrupt net k =
-    pick (eqb (placeNumber net k) 0) (record { number = 0; active = interrupt (regsAt net k) })
-    (record { number = placeNumber net k; active = false })
+    record { number = placeNumber net k; active = pick (eqb (placeNumber net k) 0) (interrupt (regsAt net k)) false }
 
 -- ---- the page reader
 unfoldable pub netData : List ℕ → ℕ → ℕ → List ℕ
 netData net k p = pick (eqb (placeNumber net k) 0) (pageData (rowAt net k) p) []
 
+abbrev pub netDataRefusals : List ℕ → ℕ → ℕ → List Refusal
+netDataRefusals net k p = placeRefusals net k ++ dataRefusals (rowAt net k) p
+
 unfoldable pub netDataNumber : List ℕ → ℕ → ℕ → ℕ
-netDataNumber net k p = pick (eqb (placeNumber net k) 0) (dataNumber (rowAt net k) p) (placeNumber net k)
+netDataNumber net k p = told (netDataRefusals net k p)
 
 -- ---- "The fresh call fills a lent network of exact length for n rows: hardware reset everywhere, RAM zero, LOST"
 unfoldable pub freshRows : ℕ → List ℕ
@@ -99,11 +109,11 @@ unfoldable pub freshNet : ℕ → List ℕ
 freshNet n = mark ++ (1 ∷ n ∷ replicate 12 0) ++ freshRows n
 
 -- "4 VALUE: fresh n not 1-60"; "13 ROOM: fresh .. network not of exact length"
-abbrev pub freshCases : (value room : Bool) → Cases
-freshCases value room = with-value value (with-room room none)
+unfoldable pub freshRefusals : List ℕ → ℕ → List Refusal
+freshRefusals net n = VALUE when (eqb n 0 || ltb rowLimit n) ∷ ROOM when not (eqb (length net) (rowStart n)) ∷ []
 
 unfoldable pub freshNumber : List ℕ → ℕ → ℕ
-freshNumber net n = numberOf (freshCases (eqb n 0 || ltb rowLimit n) (not (eqb (length net) (rowStart n))))
+freshNumber net n = told (freshRefusals net n)
 
 unfoldable pub netAfterFresh : List ℕ → ℕ → List ℕ
 netAfterFresh net n = pick (eqb (freshNumber net n) 0) (freshNet n) net

@@ -1,3 +1,4 @@
+pub mod Numbers
 pub mod Folds
 pub mod Network
 pub mod Calls

@@ -7,7 +7,7 @@ ghost use lib.ListN.{length, drop, replicate};
 ghost use Rattle.card.specs.Row.{rowBytes};
 ghost use Rattle.card.specs.Access.{freshRow};
 ghost use Rattle.table.specs.Network.{headerBytes, mark, rowStart, rows, eachRow, shape};
-ghost use Rattle.table.specs.Calls.{placeNumber, netReading, netAfterRead, settled, netWriteNumber, netAfterWrite, netAfterReset, timerNumber, netAfterTimer, netInterrupt, netData, netDataNumber, freshNumber, netAfterFresh};
+ghost use Rattle.table.specs.Calls.{placeNumber, netReadNumber, netReading, netAfterRead, settled, netWriteNumber, netAfterWrite, netAfterReset, timerNumber, netAfterTimer, netInterrupt, netData, netDataNumber, freshNumber, netAfterFresh};
 use crate::network::HEADER;
 use crate::network::LOST;
 use crate::network::MARK;
@@ -21,9 +21,21 @@ use crate::network::row_at;
 use crate::network::rows;
 use crate::network::shape;
 use crate::network::turn;
-use card::numbers::Cases;
-use card::row::ROW;
-use card::row::Reading;
+use crate::numbers::DUPLICATE;
+use crate::numbers::ROOM;
+use crate::numbers::ROW;
+use crate::numbers::SHAPE;
+use card::numbers::DONE;
+use card::numbers::NOTREADY;
+use card::numbers::VALUE;
+use card::numbers::refuse;
+use card::row::ROW_BYTES;
+
+// What a read gives: the refusal's number, DONE for none, and the value, 0 beside a refusal.
+pub struct Reading {
+    pub number: u8,
+    pub value: u8,
+}
 
 // Whether a card's interrupt is active; false beside a refusal's number.
 pub struct Interrupting {
@@ -31,17 +43,25 @@ pub struct Interrupting {
     pub active: bool,
 }
 
-// SHAPE and ROW: the cases of every call to a row.
+// SHAPE and ROW: the refusals of every call to a row.
 pub fn place_number(net: &[u8], row: usize) -> u8
     ensures { λ r. ⌜ r ≡ placeNumber (now (net .entry)) row ⌝ }
 {
-    let mut cases = Cases::none();
     if !shape(net) {
-        cases.shape = true;
-        return cases.number();
+        return SHAPE;
     }
-    cases.row = rows(net) <= row;
-    cases.number()
+    refuse(DONE, ROW, rows(net) <= row)
+}
+
+// And what the card refuses of a read.
+fn read_number(net: &[u8], row: usize, register: usize) -> u8
+    ensures { λ r. ⌜ r ≡ netReadNumber (now (net .entry)) row register ⌝ }
+{
+    let number = place_number(net, row);
+    if number != DONE {
+        return number;
+    }
+    regs_at(net, row).read_number(register)
 }
 
 // A register of a row is read.
@@ -49,12 +69,16 @@ pub fn read(net: &mut [u8], row: usize, register: usize) -> Reading
     ensures answer { λ r. ⌜ r ≡ netReading (now (net .entry)) row register ⌝ }
     ensures bytes { λ _. ⌜ now (net .exit) ≡ netAfterRead (now (net .entry)) row register ⌝ }
 {
-    let number = place_number(net, row);
-    if number != 0 {
+    let number = read_number(net, row, register);
+    if number != DONE {
         return Reading { number, value: 0 };
     }
-    let a = HEADER + ROW * row;
-    card::row::read(&mut net[a..a + ROW], register)
+    let a = HEADER + ROW_BYTES * row;
+    let value = card::row::read(&mut net[a..a + ROW_BYTES], register);
+    Reading {
+        number: DONE,
+        value,
+    }
 }
 
 // Row k, as a call has left it, was on line before the call or was not: the row that comes on line bursts, and the
@@ -85,23 +109,17 @@ pub fn write_on(net: &mut [u8], row: usize, register: usize, value: u8) -> u8
     ensures bytes { λ _. ⌜ now (net .exit) ≡ netAfterWrite (now (net .entry)) row register value ⌝ }
 {
     let g = regs_at(net, row);
-    let was = g.on_line();
     let after = g.after_write(register, value);
     let n = rows(net);
     let duplicate = after.on_line() & (node_of(net, after.id, row, n) < n);
-    let a = HEADER + ROW * row;
-    let number = card::row::write(
-        &mut net[a..a + ROW],
-        register,
-        value,
-        was & g.writes_id(register),
-        duplicate,
-    );
-    if number != 0 {
+    let number = refuse(g.write_number(register, value), DUPLICATE, duplicate);
+    if number != DONE {
         return number;
     }
-    settle(net, row, was);
-    0
+    let a = HEADER + ROW_BYTES * row;
+    card::row::write(&mut net[a..a + ROW_BYTES], register, value);
+    settle(net, row, g.on_line());
+    DONE
 }
 
 // A register of a row is written.
@@ -110,7 +128,7 @@ pub fn write(net: &mut [u8], row: usize, register: usize, value: u8) -> u8
     ensures bytes { λ _. ⌜ now (net .exit) ≡ netAfterWrite (now (net .entry)) row register value ⌝ }
 {
     let number = place_number(net, row);
-    if number != 0 {
+    if number != DONE {
         return number;
     }
     write_on(net, row, register, value)
@@ -122,14 +140,25 @@ pub fn reset(net: &mut [u8], row: usize) -> u8
     ensures bytes { λ _. ⌜ now (net .exit) ≡ netAfterReset (now (net .entry)) row ⌝ }
 {
     let number = place_number(net, row);
-    if number != 0 {
+    if number != DONE {
         return number;
     }
     let was = regs_at(net, row).on_line();
-    let a = HEADER + ROW * row;
-    card::row::hardware_reset(&mut net[a..a + ROW]);
+    let a = HEADER + ROW_BYTES * row;
+    card::row::hardware_reset(&mut net[a..a + ROW_BYTES]);
     settle(net, row, was);
-    0
+    DONE
+}
+
+// SHAPE, ROW and NOTREADY.
+fn timer_number(net: &[u8], row: usize) -> u8
+    ensures { λ r. ⌜ r ≡ timerNumber (now (net .entry)) row ⌝ }
+{
+    let number = place_number(net, row);
+    if number != DONE {
+        return number;
+    }
+    refuse(DONE, NOTREADY, !regs_at(net, row).on_line())
 }
 
 // A row's lost-token timer expires.
@@ -137,35 +166,28 @@ pub fn timer(net: &mut [u8], row: usize) -> u8
     ensures number { λ r. ⌜ r ≡ timerNumber (now (net .entry)) row ⌝ }
     ensures bytes { λ _. ⌜ now (net .exit) ≡ netAfterTimer (now (net .entry)) row ⌝ }
 {
-    let number = place_number(net, row);
-    if number != 0 {
+    let number = timer_number(net, row);
+    if number != DONE {
         return number;
     }
-    let g = regs_at(net, row);
-    let mut cases = Cases::none();
-    cases.notready = !g.on_line();
-    let number = cases.number();
-    if number != 0 {
-        return number;
-    }
-    let a = HEADER + ROW * row;
-    card::row::store(&mut net[a..a + ROW], g.burst());
+    let g = regs_at(net, row).burst();
+    put_regs(net, row, g);
     turn(net, LOST, 0);
-    0
+    DONE
 }
 
 pub fn interrupt(net: &[u8], row: usize) -> Interrupting
     ensures { λ r. ⌜ r ≡ netInterrupt (now (net .entry)) row ⌝ }
 {
     let number = place_number(net, row);
-    if number != 0 {
+    if number != DONE {
         return Interrupting {
             number,
             active: false,
         };
     }
     Interrupting {
-        number: 0,
+        number: DONE,
         active: regs_at(net, row).interrupt(),
     }
 }
@@ -174,7 +196,7 @@ pub fn interrupt(net: &[u8], row: usize) -> Interrupting
 pub fn page_data(net: &[u8], row: usize, page: usize) -> &[u8]
     ensures { λ r. ⌜ now r ≡ netData (now (net .entry)) row page ⌝ }
 {
-    if place_number(net, row) != 0 {
+    if place_number(net, row) != DONE {
         return &net[0..0];
     }
     card::packets::page_data(row_at(net, row), page)
@@ -185,7 +207,7 @@ pub fn data_number(net: &[u8], row: usize, page: usize) -> u8
     ensures { λ r. ⌜ r ≡ netDataNumber (now (net .entry)) row page ⌝ }
 {
     let number = place_number(net, row);
-    if number != 0 {
+    if number != DONE {
         return number;
     }
     card::packets::data_number(row_at(net, row), page)
@@ -197,25 +219,22 @@ pub fn fresh(net: &mut [u8], n: usize) -> u8
     ensures bytes { λ _. ⌜ now (net .exit) ≡ netAfterFresh (now (net .entry)) n ⌝ }
 {
     let number = fresh_number(net, n);
-    if number != 0 {
+    if number != DONE {
         return number;
     }
     write_header(net, n);
     create_rows(net, n);
-    0
+    DONE
 }
 
 // VALUE and ROOM.
 fn fresh_number(net: &[u8], n: usize) -> u8
     ensures { λ r. ⌜ r ≡ freshNumber (now (net .entry)) n ⌝ }
 {
-    let mut cases = Cases::none();
     if (n == 0) | (ROWS < n) {
-        cases.value = true;
-        return cases.number();
+        return VALUE;
     }
-    cases.room = net.len() != HEADER + ROW * n;
-    cases.number()
+    refuse(DONE, ROOM, net.len() != HEADER + ROW_BYTES * n)
 }
 
 // The header of a network of n rows in LOST.
@@ -237,8 +256,8 @@ fn create_rows(net: &mut [u8], n: usize)
 {
     let mut k = 0;
     while k < n {
-        let a = HEADER + ROW * k;
-        card::row::create(&mut net[a..a + ROW]);
+        let a = HEADER + ROW_BYTES * k;
+        card::row::create(&mut net[a..a + ROW_BYTES]);
         k += 1;
     }
 }

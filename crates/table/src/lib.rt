@@ -2,3 +2,4 @@
 // the card's contracts.
 pub mod calls;
 pub mod network;
+pub mod numbers;

@@ -5,7 +5,7 @@ ghost use lib.ListN.{length};
 ghost use Rattle.card.specs.Row.{rowBytes, putRegs};
 ghost use Rattle.table.specs.Network.{headerBytes, rowStart, rows, phase, holder, turned, rowAt, setRow, regsAt, nodeOf, topId, headerFits, rowsFit, idsDiffer, holderFits, shape};
 use card::regs::Regs;
-use card::row::ROW;
+use card::row::ROW_BYTES;
 
 pub const HEADER: usize = 16;
 
@@ -55,8 +55,8 @@ pub fn row_at(net: &[u8], k: usize) -> &[u8]
     ensures { λ r. ⌜ now r ≡ rowAt (now (net .entry)) k ⌝ }
     ensures { λ r. ⌜ length (now r) ≡ rowBytes ⌝ }
 {
-    let a = HEADER + ROW * k;
-    &net[a..a + ROW]
+    let a = HEADER + ROW_BYTES * k;
+    &net[a..a + ROW_BYTES]
 }
 
 pub fn regs_at(net: &[u8], k: usize) -> Regs
@@ -71,8 +71,8 @@ pub fn put_regs(net: &mut [u8], k: usize, g: Regs)
     requires { ⌜ rowStart k + rowBytes ≤ length (now net) ⌝ }
     ensures { λ _. ⌜ now (net .exit) ≡ setRow (now (net .entry)) k (putRegs (rowAt (now (net .entry)) k) g) ⌝ }
 {
-    let a = HEADER + ROW * k;
-    card::row::store(&mut net[a..a + ROW], g);
+    let a = HEADER + ROW_BYTES * k;
+    card::row::store(&mut net[a..a + ROW_BYTES], g);
 }
 
 // The phase and the holder are written.
@@ -127,7 +127,7 @@ fn header_fits(net: &[u8]) -> bool
         & (n <= ROWS)
         & (phase(net) < 3)
         & card::row::all_zero(&net[6..HEADER])
-        & (net.len() == HEADER + ROW * n)
+        & (net.len() == HEADER + ROW_BYTES * n)
 }
 
 fn rows_fit(net: &[u8], n: usize) -> bool

@@ -17,7 +17,7 @@ use Rattle.card.specs.Row.{rowBytes, regsOf, putRegs, wellFormed}
 use Rattle.card.specs.Packets.{pageBytes, pageAt}
 use Rattle.card.specs.Events.{receiving, receivePage, storable}
 use Rattle.card.specs.Bystander.{Bystander, Storing}
-use Rattle.card.proofs.Bools.{and-left, and-right, pick-of}
+use Rattle.card.proofs.Bools.{and-left, and-right, pick-of, or-false}
 use Rattle.card.proofs.Rows.{regs-put, well-fit}
 use Rattle.card.proofs.Fits.{fit-rules}
 use Rattle.card.proofs.Pages.{length-stored}
@@ -30,7 +30,6 @@ use Rattle.line.specs.Outcomes.{stores}
 use Rattle.table.proofs.Shaped.Alike.{Rams}
 use Rattle.line.proofs.Change.Changes.{Rises, Cancels, Enquires, Ends, Change, Reaches, Does, Stamps, Carries, rowDone, Whole, Allowed, storesIt, storedBy}
 use Rattle.line.proofs.Change.Paths.{by-rows}
-use Rattle.line.proofs.Turn.TakenBy.{or-false}
 use Rattle.line.proofs.Steps.StepBy.{step-by}
 
 -- ---- a row that stored the packet, or has not: a bystander whose RI stays

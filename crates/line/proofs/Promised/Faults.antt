@@ -17,7 +17,7 @@ use Rattle.card.specs.Events.{cancelled, transmitting, receiving, transmitPage,
 use Rattle.card.proofs.Bools.{cases, pick-of}
 use Rattle.table.specs.Network.{rows, phase, holder, LOST, PASS, rowAt, regsAt, nodeOf}
 use Rattle.line.specs.Traffic.{Turn, onRow, wentOut, broadcastTurn, packetTurn, enquiryTurn, tryTurn, takenTurn}
-use Rattle.line.specs.Step.{taker, passTurn, held, stepTurn, stepNumber, step}
+use Rattle.line.specs.Step.{taker, passTurn, held, stepTurn, stepRefusals, stepNumber, step}
 use Rattle.line.specs.Outcomes.{meets}
 
 -- what holds of both pairs of choices holds of the pair that is chosen
@@ -106,7 +106,7 @@ module _ (net : List ℕ) where
       (cases (eqb fault 3))) (cases (eqb fault 2))) (cases (eqb fault 1))
 
   pub idle-fault : (fault : ℕ) → fault ≤ 3 → meets fault (step net 0 .answer) ≡ false → step net fault ≡ step net 0
-  unfolding step stepNumber
+  unfolding step stepNumber stepRefusals
   idle-fault fault l =
       rw (le-ltb 3 fault l)
       (pick-both (Idle fault) (eqb (stepNumber net 0) 0) (turn-idle fault l) (λ _. refl))

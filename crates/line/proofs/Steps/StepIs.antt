@@ -1,7 +1,7 @@
 -- What one fault-free line step of a well formed network is, phase by phase.
 -- Assumes nothing.
 use mathlib.Core.Path.{_≡_, refl, sym, _∙_, ap}
-use mathlib.Core.Bool.{true, false}
+use mathlib.Core.Bool.{true, false, not, _&&_}
 use mathlib.Core.List.{List}
 use mathlib.Core.Logic.{⊎-elim}
 use Prim.Native.Nat.{ℕ, _≤_, _<_}
@@ -10,12 +10,15 @@ use borrow.Author.Tests.{eqb-false, eq-eqb, ne-eqb, ltb-true, lt-ltb, le-ltb}
 use Rattle.line.specs.declared.passes.Event.the-variants.{Recovery, Message, Taken}
 use Rattle.line.specs.declared.step.Answer.{Answer}
 use Rattle.line.specs.declared.step.Answer.the-variants.{Recovered, Passed, Unanswered}
+use Rattle.card.specs.Numbers.{DONE, VALUE}
+use Rattle.card.proofs.Order.{refuse-passed}
+use Rattle.table.specs.Numbers.{SHAPE}
+use Rattle.line.specs.Numbers.{HOLDER}
 use Rattle.card.specs.Events.{risenNid}
 use Rattle.card.proofs.Bools.{cases, pick-of}
-use Rattle.card.proofs.Order.{number-none}
-use Rattle.table.specs.Network.{rows, phase, holder, LOST, PASS, TAKEN, turned, topId, shape}
+use Rattle.table.specs.Network.{rows, phase, holder, LOST, PASS, TAKEN, turned, topId, shape, onLineAt}
 use Rattle.line.specs.Traffic.{Turn, onRow, happened, takenTurn}
-use Rattle.line.specs.Step.{highest, lostTurn, invited, taker, passTurn, held, stepTurn, stepNumber, step, answerValue}
+use Rattle.line.specs.Step.{highest, lostTurn, invited, taker, passTurn, held, stepTurn, stepRefusals, stepNumber, step, answerValue}
 use Rattle.table.proofs.Folds.{clash}
 use Rattle.table.proofs.Shaped.Shapes.{shape-holder}
 
@@ -26,11 +29,13 @@ invitation net = happened net (Message (holder net) true)
 module _ (net : List ℕ) (s : shape net ≡ true) where
   -- the step is not refused
   number-is : stepNumber net 0 ≡ 0
-  unfolding stepNumber
-  number-is =
-      ⊎-elim (λ (t : eqb (phase net) LOST ≡ true). rw (s, t) number-none)
-      (λ (t : eqb (phase net) LOST ≡ false). rw (s, t, shape-holder net s (eqb-false (phase net) LOST t) .1) number-none)
-      (cases (eqb (phase net) LOST))
+  unfolding stepNumber stepRefusals
+  number-is = rw (refuse-passed DONE SHAPE (not (shape net)) (ap not s), refuse-passed DONE VALUE false refl, refuse-passed DONE HOLDER (not (eqb (phase net) LOST) && not (onLineAt net (holder net))) held)
+    where
+      held : (not (eqb (phase net) LOST) && not (onLineAt net (holder net))) ≡ false
+      held =
+          ⊎-elim (λ (t : eqb (phase net) LOST ≡ true). rw t)
+          (λ (t : eqb (phase net) LOST ≡ false). rw (t, shape-holder net s (eqb-false (phase net) LOST t) .1)) (cases (eqb (phase net) LOST))
 
   pub step-is : step net 0 ≡ stepTurn net 0
   unfolding step

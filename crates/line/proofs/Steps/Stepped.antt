@@ -1,24 +1,26 @@
 -- The public step: its refusals, and the step of a network that SHAPE does not refuse.
 -- Assumes nothing.
-use mathlib.Core.Path.{_≡_, refl, sym, _∙_}
+use mathlib.Core.Path.{_≡_, refl, sym, _∙_, ap}
 use mathlib.Core.Bool.{Bool, true, false, not, _&&_}
 use mathlib.Core.List.{List}
 use mathlib.Core.Logic.{⊎-elim}
 use Prim.Native.Nat.{ℕ, _<_}
 use native.Mathlib.Omega.{arith}
-use borrow.Author.Tests.{eq-eqb, ne-eqb, eqb-true, eqb-false}
+use borrow.Author.Tests.{eq-eqb, ne-eqb, eqb-true, eqb-false, not-false}
 use lib.Dec.{eqb, ltb}
 use Rattle.card.specs.declared.regs.Regs.{Regs}
-use Rattle.card.specs.declared.numbers.Cases.{Cases}
 use Rattle.line.specs.declared.step.Answer.{Answer}
 use Rattle.line.specs.declared.step.Answer.the-variants.{Refused}
 use Rattle.card.specs.Row.{onLine}
-use Rattle.card.specs.Numbers.{numberOf, placed}
+use Rattle.card.specs.Numbers.{DONE, VALUE, refuse}
 use Rattle.card.proofs.Bools.{cases, pick-of}
-use Rattle.card.proofs.Order.{placed-shape}
+use Rattle.card.proofs.Order.{refuse-held, refuse-passed, refuse-stays, none-refuses}
+use Rattle.table.specs.Numbers.{SHAPE}
+use Rattle.line.specs.Numbers.{HOLDER}
 use Rattle.table.specs.Network.{rows, phase, holder, LOST, PASS, regsAt, onLineAt, topId, shape}
 use Rattle.line.specs.Traffic.{Turn}
-use Rattle.line.specs.Step.{destroyed, taker, lostTurn, passTurn, stepCases, stepNumber, stepTurn, step, answerNumber}
+use Rattle.line.specs.Step.{destroyed, taker, lostTurn, passTurn, stepRefusals, stepNumber, stepTurn, step, answerNumber}
+use Rattle.table.proofs.Online.Nodes.{online-is}
 use Rattle.table.proofs.Shaped.Shapes.{shape-rows, shape-holder, shape-lost}
 
 -- in every phase the holder's byte names a row
@@ -28,20 +30,25 @@ held-row net s =
     (cases (eqb (phase net) LOST))
 
 module _ (net : List ℕ) (fault : ℕ) where
-  pub no-shape : shape net ≡ false → (t : Cases) (k : ℕ) → k ≡ numberOf (placed true (t .row) t)
-      → (Refused k ≡ step net fault .answer) × (net ≡ step net fault .after)
-  unfolding step stepNumber
-  no-shape s t k e =
-      let one : k ≡ 1 = e ∙ placed-shape t (t .row) in
-      let h = not (eqb (phase net) LOST) && not (onLineAt net (holder net)) in
-      let v = placed-shape (stepCases true (ltb 3 fault) h) false in
-      (rw (s, v, one), rw (s, v))
+  -- SHAPE, as the code asks it first, and the refusals after it
+  module _ (s : Bool) (e : s ≡ shape net) where
+    pub number-shape : not s ≡ true → SHAPE ≡ stepNumber net fault
+    unfolding stepNumber stepRefusals
+    number-shape f =
+        let n : SHAPE ≡ DONE → ⊥ = λ z. omega arith in
+        rw (refuse-held SHAPE (not (shape net)) (ap not (sym e) ∙ f), refuse-stays SHAPE VALUE (ltb 3 fault) n, refuse-stays SHAPE HOLDER (not (eqb (phase net) LOST) && not (onLineAt net (holder net))) n)
 
-  module _ (s : shape net ≡ true) (h : ℕ) (eh : h ≡ holder net) (g : Regs) (eg : g ≡ regsAt net h) (o : Bool) (eo : o ≡ onLine g)
-      (k : ℕ) (ek : k ≡ numberOf (stepCases false (ltb 3 fault) (not (eqb (phase net) LOST) && not o))) where
-    number-is : k ≡ stepNumber net fault
-    unfolding stepNumber onLineAt
-    number-is = ek ∙ rw (s, eo, eg, eh)
+    pub number-asked : not s ≡ false → (p : ℕ) → p ≡ phase net → (h : ℕ) → h ≡ holder net → (g : Regs) → g ≡ regsAt net h → (o : Bool) → o ≡ onLine g
+        → (n : ℕ) → n ≡ refuse DONE VALUE (ltb 3 fault) → (k : ℕ) → k ≡ refuse n HOLDER (not (eqb p LOST) && not o) → k ≡ stepNumber net fault
+    unfolding stepNumber stepRefusals
+    number-asked f p ep h eh g eg o eo n en k ek =
+        let i : o ≡ onLineAt net (holder net) = online-is net h g o eg eo ∙ ap (onLineAt net) eh in
+        rw (refuse-passed DONE SHAPE (not (shape net)) (ap not (sym e) ∙ f)) (ek ∙ rw (en, i, ep))
+
+  module _ (k : ℕ) (number-is : k ≡ stepNumber net fault) where
+    pub step-shape : k ≡ 0 → shape net ≡ true
+    unfolding stepNumber stepRefusals
+    step-shape z = not-false (shape net) (none-refuses (stepRefusals net fault) refl (sym number-is ∙ z) SHAPE)
 
     pub refuses : (k ≡ 0 → ⊥) → (Refused k ≡ step net fault .answer) × (net ≡ step net fault .after)
     unfolding step
@@ -52,7 +59,7 @@ module _ (net : List ℕ) (fault : ℕ) where
     unfolding step
     steps z a y e = (rw (← number-is, eq-eqb _ _ z) (e .0), rw (← number-is, eq-eqb _ _ z) (e .1))
 
--- ---- the number of what a step answers is that of its cases
+-- ---- the number of what a step answers is that of its refusals
 abbrev Done : Turn Answer → Type 0
 Done t = answerNumber (t .answer) ≡ 0
 

@@ -17,7 +17,7 @@ use Rattle.card.specs.Words.{pick}
 use Rattle.card.specs.Row.{regsOf}
 use Rattle.card.specs.Packets.{malformed, pageShape, destination, packetAt}
 use Rattle.card.specs.Events.{cancelled, transmitting, receiving, transmitPage, storable}
-use Rattle.card.proofs.Bools.{cases, pick-of}
+use Rattle.card.proofs.Bools.{cases, and-false, or-false, pick-of}
 use Rattle.card.proofs.Traffic.{transmit-page-small}
 use Rattle.card.proofs.Ends.{page-of}
 use Rattle.card.proofs.Pages.{length-stamped}
@@ -56,14 +56,6 @@ tried Unacknowledged = true
 
 abbrev pub SaysHeld : List ℕ → (Regs → Regs) → Outcome → Type 0
 SaysHeld net f o = ((g : Regs) → f g ≡ holderAfter o g) × (transmitting (cancelled (regsAt net (holder net))) ≡ tried o)
-
-pub or-false : (b : Bool) → (b || false) ≡ b
-or-false true = refl
-or-false false = refl
-
-and-false : (b : Bool) → (b && false) ≡ false
-and-false true = refl
-and-false false = refl
 
 alone : (a b c : Bool) → (a && b && c || false) ≡ (a && (b && c))
 alone true b c = or-false (b && c)

@@ -15,7 +15,7 @@ use Rattle.card.proofs.Bools.{pick-of}
 use Rattle.card.proofs.Rows.{length-put}
 use Rattle.card.proofs.Stays.{length-read, length-write}
 use Rattle.table.specs.Network.{headerBytes, rowStart, rows, phase, LOST, turned, rowAt, setRow, onRegs, regsAt, onLineAt, shape}
-use Rattle.table.specs.Calls.{placeNumber, netAfterRead, isHolder, settled, online, duplicate, netWriteNumber, netAfterWrite, netAfterReset, timerNumber, netAfterTimer}
+use Rattle.table.specs.Calls.{placeNumber, netReadNumber, netAfterRead, isHolder, settled, netWriteNumber, netAfterWrite, netAfterReset, timerNumber, netAfterTimer}
 use Rattle.table.proofs.Rows.Networks.{length-rowAt, length-setRow, setRow-header, rowAt-setRow-other, length-turned, rowAt-turned, turned-other, phase-turned}
 use Rattle.table.proofs.Shaped.Shapes.{shape-within, shape-row-length}
 
@@ -90,16 +90,14 @@ module _ (net : List ℕ) (s : shape net ≡ true) (k : ℕ) (l : k < rows net) 
   pub read-beside : (r : ℕ) → Beside net (netAfterRead net k r) k
   unfolding netAfterRead
   read-beside r =
-      pick-of (λ (x : List ℕ). Beside net x k) (eqb (placeNumber net k) 0)
+      pick-of (λ (x : List ℕ). Beside net x k) (eqb (netReadNumber net k r) 0)
       (λ _. beside-row k net inside (rowAfterRead row r) (length-read row row-length r)) (λ _. beside-same k net)
 
   pub write-beside : (r v : ℕ) → Beside net (netAfterWrite net k r v) k
   unfolding netAfterWrite
   write-beside r v =
-      let o = online net k r in
-      let d = duplicate net k r v in
       pick-of (λ (x : List ℕ). Beside net x k) (eqb (netWriteNumber net k r v) 0)
-      (λ _. beside-call (rowAfterWrite row r v o d) (length-write row row-length r v o d)) (λ _. beside-same k net)
+      (λ _. beside-call (rowAfterWrite row r v) (length-write row row-length r v)) (λ _. beside-same k net)
 
   pub reset-beside : Beside net (netAfterReset net k) k
   unfolding netAfterReset

@@ -20,7 +20,7 @@ use Rattle.card.proofs.Stays.{length-read, length-write}
 use Rattle.card.proofs.Rams.{ram-put}
 use Rattle.card.proofs.Touched.{reset-id, write-nid, write-id-byte, kept-row, ram-read, ram-write}
 use Rattle.table.specs.Network.{rowStart, rows, LOST, turned, rowAt, setRow, onRegs, regsAt, onLineAt, shape, SameNodes}
-use Rattle.table.specs.Calls.{placeNumber, netAfterRead, isHolder, settled, online, duplicate, netWriteNumber, netAfterWrite, netAfterReset}
+use Rattle.table.specs.Calls.{placeNumber, netReadNumber, netAfterRead, isHolder, settled, netWriteNumber, netAfterWrite, netAfterReset}
 use Rattle.table.proofs.Folds.{clash}
 use Rattle.table.proofs.Rows.Networks.{length-rowAt, length-setRow, rowAt-setRow, rowAt-turned}
 use Rattle.table.proofs.Online.Nodes.{online-same}
@@ -28,9 +28,9 @@ use Rattle.table.proofs.Shaped.Shapes.{shape-within, shape-row, shape-r
 use Rattle.table.proofs.Shaped.ShapesKept.{became-put}
 use Rattle.table.proofs.Shaped.Became.{still-same}
 use Rattle.table.proofs.Shaped.Alike.{Rams}
-use Rattle.table.proofs.Access.Placed.{at-row}
+use Rattle.table.proofs.Access.Placed.{read-placed, write-placed, row-there}
 use Rattle.table.proofs.Shaped.RowsKeep.{kept-read, reset-off, regs-write}
-use Rattle.table.proofs.Access.CallsKeep.{write-placed, write-keeps, reset-keeps}
+use Rattle.table.proofs.Access.CallsKeep.{write-keeps, reset-keeps}
 use Rattle.table.proofs.Online.SameNodes.{Quiet, calm-still, calm-quiet, quiet-same}
 pub use Rattle.table.proofs.Online.SameNodes.{same-nodes-then, alike-nodes, Calm, calm-same}
 
@@ -66,8 +66,8 @@ module _ (net : List ℕ) (s : shape net ≡ true) (b : Rams net) (k : ℕ) wher
   pub calm-read : (g : ℕ) → Calm net (netAfterRead net k g)
   unfolding netAfterRead
   calm-read g =
-      pick-of (Calm net) (eqb (placeNumber net k) 0)
-      (λ z. let l = at-row net k (placeNumber net k) refl (eqb-true _ _ z) in
+      pick-of (Calm net) (eqb (netReadNumber net k g) 0)
+      (λ z. let l = row-there net k (read-placed net k g (eqb-true _ _ z)) .1 in
       let r = rowAt net k in
       let w = shape-row-length net s k l in
       calm-still net s b (setRow net k (rowAfterRead r g))
@@ -80,16 +80,13 @@ module _ (net : List ℕ) (s : shape net ≡ true) (b : Rams net) (k : ℕ) wher
   unfolding netAfterWrite
   calm-write g v h =
       let r = rowAt net k in
-      let o = online net k g in
-      let d = duplicate net k g v in
       pick-of (λ (x : List ℕ). shape x ≡ true → SameNodes net x → Calm net x) (eqb (netWriteNumber net k g v) 0)
-      (λ z. let p = write-placed net s k g v (eqb-true _ _ z) in
-      let l = at-row net k (placeNumber net k) refl (p .0) in
+      (λ z. let l = row-there net k (write-placed net k g v (eqb-true _ _ z)) .1 in
       let w = shape-row-length net s k l in
-      let e = regs-write r w g v o d (p .1) in
-      calm-settled l (rowAfterWrite r g v o d) (length-write r w g v o d)
+      let e = regs-write r w g v in
+      calm-settled l (rowAfterWrite r g v) (length-write r w g v)
       (record {
-        bytes = λ m. (ram-write r (m .0) g v o d h, rw e (write-id-byte (regsOf r) g v (m .1) h));
+        bytes = λ m. (ram-write r (m .0) g v h, rw e (write-id-byte (regsOf r) g v (m .1) h));
         nid = λ _. ap (λ (x : Regs). x .nid) e ∙ write-nid (regsOf r) g v;
       }))
       (λ _ _ _. calm-same net s b)
@@ -100,7 +97,7 @@ module _ (net : List ℕ) (s : shape net ≡ true) (b : Rams net) (k : ℕ) wher
   calm-reset =
       let r = rowAt net k in
       pick-of (λ (x : List ℕ). shape x ≡ true → SameNodes net x → Calm net x) (eqb (placeNumber net k) 0)
-      (λ z. let l = at-row net k (placeNumber net k) refl (eqb-true _ _ z) in
+      (λ z. let l = row-there net k (eqb-true _ _ z) .1 in
       let w = shape-row-length net s k l in
       calm-settled l (rowAfterReset r) (length-put r hardwareReset ∙ w)
       (record {

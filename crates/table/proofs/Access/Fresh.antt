@@ -3,24 +3,22 @@
 use mathlib.Core.Path.{_≡_, refl, sym, _∙_, ap}
 use mathlib.Core.Bool.{Bool, true, false, not, _||_}
 use mathlib.Core.List.{List, _∷_, _++_, append-nil, append-assoc}
-use mathlib.Core.Logic.{⊎-elim}
 use Prim.Native.Nat.{ℕ, zero, suc, _+_, _*_, _≤_, _<_}
 use native.Mathlib.Omega.{arith}
-use lib.Dec.{eqb, ltb, lit<}
-use lib.ListN.{length, getD, set, drop, replicate, length-append, length-drop, drop-of-length-le}
+use lib.Dec.{eqb, ltb}
+use lib.ListN.{length, set, drop, replicate, length-append, length-drop, drop-of-length-le}
 use lib.Seq.{length-take-le, take-at, drop-at, drop-drop}
 use borrow.Author.Tests.{eq-eqb, ne-eqb, eqb-true, ltb-false, le-ltb, not-false}
 use borrow.Rule.Slice.PartMut.{midOf, putMid}
-use Rattle.card.specs.Words.{pick}
-use Rattle.card.specs.Numbers.{numberOf}
+use Rattle.card.specs.Numbers.{DONE, VALUE, refuse, refuses}
 use Rattle.card.specs.Row.{rowBytes}
 use Rattle.card.specs.Access.{freshRow}
-use Rattle.card.proofs.Bools.{cases, or-right}
-use Rattle.card.proofs.Order.{tests, none-holds}
-use Rattle.card.proofs.Order.{number-none, number-value, number-room}
+use Rattle.card.proofs.Bools.{or-right}
+use Rattle.card.proofs.Order.{refuse-held, refuse-passed, refuse-stays, none-refuses}
 use Rattle.card.proofs.Stays.{length-fresh}
+use Rattle.table.specs.Numbers.{ROOM}
 use Rattle.table.specs.Network.{headerBytes, mark, rowLimit, rowStart, rows, phase, LOST, rowAt, setRow, eachRow}
-use Rattle.table.specs.Calls.{freshRows, freshNet, freshCases, freshNumber, netAfterFresh}
+use Rattle.table.specs.Calls.{freshRows, freshNet, freshRefusals, freshNumber, netAfterFresh}
 use Rattle.table.proofs.Rows.EachRow.{eachRow-row}
 
 -- ---- the refusals
@@ -30,16 +28,14 @@ bad n = eqb n 0 || ltb rowLimit n
 pub fresh-small : (n : ℕ) → bad n ≡ false → n ≤ rowLimit
 fresh-small n b = ltb-false _ _ (or-right (eqb n 0) (ltb rowLimit n) b)
 
-module _ (net : List ℕ) (n r : ℕ) where
-  pub fresh-value : bad n ≡ true → r ≡ numberOf (freshCases true false) → r ≡ freshNumber net n
-  unfolding freshNumber
-  fresh-value b e =
-      e ∙ number-value (freshCases true false) refl refl refl refl
-      ∙ sym (rw b (number-value (freshCases true (not (eqb (length net) (rowStart n)))) refl refl refl refl))
+module _ (net : List ℕ) (n : ℕ) where
+  pub fresh-value : bad n ≡ true → VALUE ≡ freshNumber net n
+  unfolding freshNumber freshRefusals
+  fresh-value b = rw (refuse-held VALUE (bad n) b, refuse-stays VALUE ROOM (not (eqb (length net) (rowStart n))) (λ z. omega arith))
 
-  pub fresh-asked : bad n ≡ false → r ≡ numberOf (freshCases false (not (eqb (length net) (rowStart n)))) → r ≡ freshNumber net n
-  unfolding freshNumber
-  fresh-asked b e = e ∙ rw b
+  pub fresh-asked : bad n ≡ false → (r : ℕ) → r ≡ refuse DONE ROOM (not (eqb (length net) (rowStart n))) → r ≡ freshNumber net n
+  unfolding freshNumber freshRefusals
+  fresh-asked b r e = rw (refuse-passed DONE VALUE (bad n) b) e
 
 -- ---- the rows
 pub length-freshRows : (n : ℕ) → length (freshRows n) ≡ rowBytes * n
@@ -78,12 +74,13 @@ module _ (net : List ℕ) (n r : ℕ) (p : r ≡ freshNumber net n) where
   fresh-refused h = (p, rw (← p, ne-eqb _ _ h))
 
   module _ (z : r ≡ 0) where
-    none-met : (i : ℕ) → i < 14 → getD (tests (freshCases (bad n) (not (eqb (length net) (rowStart n))))) i false ≡ false
-    unfolding freshNumber
-    none-met i l = none-holds (freshCases (bad n) (not (eqb (length net) (rowStart n)))) (sym p ∙ z) i l
+    none : (m : ℕ) → refuses (freshRefusals net n) m ≡ false
+    unfolding freshNumber freshRefusals
+    none = none-refuses (freshRefusals net n) refl (sym p ∙ z)
 
     pub fresh-fits : (n ≤ rowLimit) × (length net ≡ rowStart n)
-    fresh-fits = (fresh-small n (none-met 3 (lit< tt)), eqb-true _ _ (not-false _ (none-met 12 (lit< tt))))
+    unfolding freshRefusals
+    fresh-fits = (fresh-small n (none VALUE), eqb-true _ _ (not-false _ (none ROOM)))
 
     pub fresh-done : (x : List ℕ) → x ≡ header n ++ drop headerBytes net → (m : List ℕ) → m ≡ eachRow (λ k r. freshRow) x n
         → (0 ≡ freshNumber net n) × (m ≡ netAfterFresh net n)
@@ -102,12 +99,8 @@ module _ (net : List ℕ) (n r : ℕ) (p : r ≡ freshNumber net n) where
 
 -- ---- the call for 1 to 60 rows: ROOM, or the network is made
 module _ (net : List ℕ) (n : ℕ) where
-  pub fresh-room : 0 < n → n ≤ rowLimit → freshNumber net n ≡ pick (eqb (length net) (rowStart n)) 0 13
-  unfolding freshNumber
-  fresh-room a b =
-      rw (ne-eqb n 0 (λ e. omega arith), le-ltb rowLimit n b)
-      (⊎-elim (λ (t : eqb (length net) (rowStart n) ≡ true). rw t number-none) (λ (t : eqb (length net) (rowStart n) ≡ false). rw t number-room)
-      (cases (eqb (length net) (rowStart n))))
+  pub fresh-room : 0 < n → n ≤ rowLimit → freshNumber net n ≡ refuse DONE ROOM (not (eqb (length net) (rowStart n)))
+  fresh-room a b = sym (fresh-asked net n (rw (ne-eqb n 0 (λ e. omega arith)) (le-ltb rowLimit n b)) _ refl)
 
   pub fresh-net : freshNumber net n ≡ 0 → netAfterFresh net n ≡ freshNet n
   unfolding netAfterFresh

@@ -1,23 +1,21 @@
 -- A call that names a row changes no other row, whatever network it is given.
 -- Assumes nothing.
 use mathlib.Core.Path.{_≡_, refl, sym, _∙_}
-use mathlib.Core.Bool.{true, false, not, false≢true}
+use mathlib.Core.Bool.{true, false, false≢true}
 use mathlib.Core.List.{List}
 use mathlib.Core.Logic.{⊎-elim}
 use Prim.Native.Nat.{ℕ, _<_}
 use native.Mathlib.Omega.{arith}
-use lib.Dec.{eqb, leb, ltb, lit<}
+use lib.Dec.{eqb, ltb}
 use lib.ListN.{getD}
-use borrow.Author.Tests.{eqb-true, ne-eqb, ltb-true, ltb-false, leb-false, not-false}
-use Rattle.card.specs.Numbers.{placed}
+use borrow.Author.Tests.{eqb-true, ne-eqb, ltb-true, ltb-false}
 use Rattle.card.proofs.Bools.{cases, pick-of}
 use Rattle.card.proofs.Stays.{length-read}
-use Rattle.card.proofs.Order.{none-holds}
-use Rattle.table.specs.Network.{headerBytes, rows, rowAt, onLineAt, shape, OnlyRow}
-use Rattle.table.specs.Calls.{placeNumber, netAfterRead, netWriteNumber, netAfterWrite, netAfterReset, offLine, timerNumber, netAfterTimer}
+use Rattle.table.specs.Network.{headerBytes, rows, rowAt, shape, OnlyRow}
+use Rattle.table.specs.Calls.{netReadNumber, netAfterRead, netAfterWrite, netAfterReset, netAfterTimer}
 use Rattle.table.proofs.Rows.Networks.{setRow-header}
 use Rattle.table.proofs.Shaped.Shapes.{shape-within, shape-row-length}
-use Rattle.table.proofs.Access.Placed.{at-shape, at-row}
+use Rattle.table.proofs.Access.Placed.{read-placed, write-placed, timer-placed, row-there}
 use Rattle.table.proofs.Access.Refused.{write-refused, reset-refused, timer-refused}
 use Rattle.table.proofs.Access.Beside.{Beside, read-beside, write-beside, reset-beside, timer-beside}
 
@@ -39,36 +37,25 @@ module _ (net : List ℕ) (k : ℕ) where
       (λ (l : ltb k (rows net) ≡ false). none (λ t. omega (arith, t .1, ltb-false k (rows net) l))) (cases (ltb k (rows net))))
       (λ (s : shape net ≡ false). none (λ t. false≢true (sym s ∙ t .0))) (cases (shape net))
 
-  unplaced : (There → ⊥) → placeNumber net k ≡ 0 → ⊥
-  unplaced n z = n (at-shape net k (placeNumber net k) refl z, at-row net k (placeNumber net k) refl z)
-
-  untimed : (There → ⊥) → timerNumber net k ≡ 0 → ⊥
-  unfolding timerNumber
-  untimed n z =
-      let asked = placed (not (shape net)) (leb (rows net) k) (offLine (not (onLineAt net k))) in
-      n (not-false _ (none-holds asked z 0 (lit< tt)), leb-false _ _ (none-holds asked z 1 (lit< tt)))
-
   -- ---- the calls
   pub read-only : (g : ℕ) → OnlyRow net (netAfterRead net k g) k
   unfolding netAfterRead
-  read-only g = only-of (λ n. rw (ne-eqb _ _ (unplaced n))) (λ s l. read-beside net s k l g)
+  read-only g = only-of (λ n. rw (ne-eqb (netReadNumber net k g) 0 (λ z. n (row-there net k (read-placed net k g z))))) (λ s l. read-beside net s k l g)
 
   -- which leaves phase and holder too
   pub read-header : (g i : ℕ) → i < headerBytes → getD (netAfterRead net k g) i 0 ≡ getD net i 0
   unfolding netAfterRead
   read-header g i h =
-      pick-of (λ (x : List ℕ). getD x i 0 ≡ getD net i 0) (eqb (placeNumber net k) 0)
-      (λ z. let p = at-shape net k (placeNumber net k) refl (eqb-true _ _ z) in
-      let l = at-row net k (placeNumber net k) refl (eqb-true _ _ z) in
-      setRow-header net k _ (shape-within net p k l) (length-read (rowAt net k) (shape-row-length net p k l) g) i h) (λ _. refl)
+      pick-of (λ (x : List ℕ). getD x i 0 ≡ getD net i 0) (eqb (netReadNumber net k g) 0)
+      (λ z. let t = row-there net k (read-placed net k g (eqb-true _ _ z)) in
+      setRow-header net k _ (shape-within net (t .0) k (t .1)) (length-read (rowAt net k) (shape-row-length net (t .0) k (t .1)) g) i h) (λ _. refl)
 
   pub write-only : (g v : ℕ) → OnlyRow net (netAfterWrite net k g v) k
-  unfolding netWriteNumber
   write-only g v =
-      only-of (λ n. write-refused net k g v (let u = unplaced n in rw (ne-eqb _ _ u) u)) (λ s l. write-beside net s k l g v)
+      only-of (λ n. write-refused net k g v (λ z. n (row-there net k (write-placed net k g v z)))) (λ s l. write-beside net s k l g v)
 
   pub reset-only : OnlyRow net (netAfterReset net k) k
-  reset-only = only-of (λ n. reset-refused net k (unplaced n)) (λ s l. reset-beside net s k l)
+  reset-only = only-of (λ n. reset-refused net k (λ z. n (row-there net k z))) (λ s l. reset-beside net s k l)
 
   pub timer-only : OnlyRow net (netAfterTimer net k) k
-  timer-only = only-of (λ n. timer-refused net k (untimed n)) (λ s l. timer-beside net s k l)
+  timer-only = only-of (λ n. timer-refused net k (λ z. n (row-there net k (timer-placed net k z)))) (λ s l. timer-beside net s k l)

@@ -2,29 +2,27 @@
 -- Assumes nothing.
 use mathlib.Core.Path.{_≡_, refl, sym, _∙_, ap}
 use mathlib.Core.Bool.{Bool, true, false, not}
-use mathlib.Core.List.{List, []}
-use mathlib.Core.Logic.{⊎-elim}
+use mathlib.Core.List.{List, [], _∷_, _++_}
 use Prim.Native.Nat.{ℕ, _+_, _-_, _≤_, _<_}
 use native.Mathlib.Omega.{arith}
-use lib.Dec.{leb, lit<}
+use lib.Dec.{leb}
 use lib.ListN.{length}
 use borrow.Author.Tests.{eq-eqb, ne-eqb, leb-false, lt-leb, not-false}
 use borrow.Rule.Slice.PartMut.{midOf, putMid}
 use Rattle.card.specs.declared.regs.Regs.{Regs}
-use Rattle.card.specs.declared.row.Reading.{Reading}
-use Rattle.card.specs.declared.numbers.Cases.{Cases}
-use Rattle.card.specs.Numbers.{none, numberOf, placed}
+use Rattle.card.specs.Numbers.{DONE, NOTREADY, Refusal, _when_, refuse, told, refuses}
 use Rattle.card.specs.Row.{rowBytes, putRegs, onLine}
 use Rattle.card.specs.Registers.{interrupt}
-use Rattle.card.specs.Access.{reading, rowAfterRead}
-use Rattle.card.specs.Packets.{dataNumber, pageData}
+use Rattle.card.specs.Refusals.{readRefusals}
+use Rattle.card.specs.Access.{valueRead, rowAfterRead}
+use Rattle.card.specs.Packets.{pageData}
 use Rattle.card.specs.Events.{burst}
-use Rattle.card.proofs.Bools.{cases}
-use Rattle.card.proofs.Order.{none-holds, placed-shape, placed-row, placed-card}
-use Rattle.card.proofs.Order.{number-none}
+use Rattle.card.proofs.Order.{refuse-held, refuse-passed, refuse-stays, told-first, told-second, told-both, none-refuses}
+use Rattle.table.specs.declared.calls.Reading.{Reading}
 use Rattle.table.specs.declared.calls.Interrupting.{Interrupting}
-use Rattle.table.specs.Network.{rowLimit, rowStart, rows, LOST, turned, rowAt, regsAt, onLineAt, shape}
-use Rattle.table.specs.Calls.{placeNumber, netReading, netAfterRead, offLine, timerNumber, netAfterTimer, netInterrupt, netData, netDataNumber}
+use Rattle.table.specs.Numbers.{SHAPE, ROW}
+use Rattle.table.specs.Network.{rowLimit, rowStart, rows, LOST, turned, rowAt, setRow, regsAt, onLineAt, shape}
+use Rattle.table.specs.Calls.{placeRefusals, placeNumber, netReadNumber, netReading, netAfterRead, rowWriteRefusals, netWriteNumber, timerNumber, netAfterTimer, netInterrupt, netData}
 use Rattle.table.proofs.Rows.Networks.{mid-row, put-row}
 use Rattle.table.proofs.Online.Nodes.{online-is}
 use Rattle.table.proofs.Shaped.Shapes.{shape-rows, shape-within}
@@ -37,14 +35,14 @@ abbrev pub back : List ℕ → ℕ → List ℕ → List ℕ
 back net k s = putMid (rowStart k) (rowStart k + rowBytes - rowStart k) net s
 
 -- ---- SHAPE and ROW, as the code asks them
-module _ (net : List ℕ) (k : ℕ) (s : Bool) (e : s ≡ shape net) (t : Cases) (z : t ≡ none) (r : ℕ) where
-  pub place-refused : not s ≡ true → r ≡ numberOf (placed true (t .row) t) → r ≡ placeNumber net k
-  unfolding placeNumber
-  place-refused f h = h ∙ placed-shape t (t .row) ∙ rw (← e, f) (sym (placed-shape none (leb (rows net) k)))
+module _ (net : List ℕ) (k : ℕ) (s : Bool) (e : s ≡ shape net) where
+  pub place-refused : not s ≡ true → SHAPE ≡ placeNumber net k
+  unfolding placeNumber placeRefusals
+  place-refused f = rw (refuse-held SHAPE (not (shape net)) (ap not (sym e) ∙ f), refuse-stays SHAPE ROW (leb (rows net) k) (λ z. omega arith))
 
-  pub place-asked : not s ≡ false → (n : ℕ) → n ≡ rows net → r ≡ numberOf (placed (t .shape) (leb n k) t) → r ≡ placeNumber net k
-  unfolding placeNumber
-  place-asked f n m h = h ∙ rw (z, m, ← e, f)
+  pub place-asked : not s ≡ false → (n : ℕ) → n ≡ rows net → (r : ℕ) → r ≡ refuse DONE ROW (leb n k) → r ≡ placeNumber net k
+  unfolding placeNumber placeRefusals
+  place-asked f n m r h = rw (refuse-passed DONE SHAPE (not (shape net)) (ap not (sym e) ∙ f), ← m) h
 
 -- row k is there: its part lies in the network, at a place that a usize holds, and the place has the number 0
 module _ (net : List ℕ) (k : ℕ) (s : shape net ≡ true) (l : k < rows net) where
@@ -52,38 +50,36 @@ module _ (net : List ℕ) (k : ℕ) (s : shape net ≡ true) (l : k < rows net) 
   row-part = (omega (arith, shape-rows net s .1), shape-within net s k l)
 
   pub row-placed : placeNumber net k ≡ 0
-  unfolding placeNumber
-  row-placed = rw (s, lt-leb _ _ l) (placed-card none refl refl ∙ number-none)
+  unfolding placeNumber placeRefusals
+  row-placed = rw (refuse-passed DONE SHAPE (not (shape net)) (ap not s), refuse-passed DONE ROW (leb (rows net) k) (lt-leb _ _ l))
 
 -- the number n is that of the place: 0 where the row is there
 module _ (net : List ℕ) (k n : ℕ) (p : n ≡ placeNumber net k) where
   module _ (z : n ≡ 0) where
-    abbrev asked : Cases
-    asked = placed (not (shape net)) (leb (rows net) k) none
+    none : (m : ℕ) → refuses (placeRefusals net k) m ≡ false
+    unfolding placeNumber placeRefusals
+    none = none-refuses (placeRefusals net k) refl (sym p ∙ z)
 
     pub at-shape : shape net ≡ true
-    unfolding placeNumber
-    at-shape = not-false _ (none-holds asked (sym p ∙ z) 0 (lit< tt))
+    unfolding placeRefusals
+    at-shape = not-false _ (none SHAPE)
 
     pub at-row : k < rows net
-    unfolding placeNumber
-    at-row = leb-false _ _ (none-holds asked (sym p ∙ z) 1 (lit< tt))
+    unfolding placeRefusals
+    at-row = leb-false _ _ (none ROW)
 
     pub at-part : (k < rowLimit) × (rowStart k + rowBytes ≤ length net)
     at-part = row-part net k at-shape at-row
 
-  -- ---- reading
-  pub read-refused : (g : ℕ) → (n ≡ 0 → ⊥)
-      → (_≡_ {A = Reading} (record { number = n; value = 0 }) (netReading net k g)) × (net ≡ netAfterRead net k g)
-  unfolding netReading netAfterRead
-  read-refused g h = (rw (← p, ne-eqb _ _ h), rw (← p, ne-eqb _ _ h))
+  -- and the call goes on with its own refusals l
+  module _ (l : List Refusal) where
+    pub placed-refused : (n ≡ 0 → ⊥) → n ≡ told (placeRefusals net k ++ l)
+    unfolding placeNumber
+    placed-refused h = p ∙ sym (told-first (placeRefusals net k) l (λ z. h (p ∙ z)))
 
-  pub read-done : (g : ℕ) → n ≡ 0 → (x : Reading) (s : List ℕ) → x ≡ reading (lent net k) g
-      → s ≡ rowAfterRead (lent net k) g
-      → (x ≡ netReading net k g) × (back net k s ≡ netAfterRead net k g)
-  unfolding netReading netAfterRead
-  read-done g z x s a b =
-      (a ∙ rw (mid-row, ← p, eq-eqb _ _ z), put-row net k s ∙ rw (b ∙ ap (λ (r : List ℕ). rowAfterRead r g) (mid-row net k), ← p, eq-eqb _ _ z))
+    pub placed-asked : n ≡ 0 → (m : ℕ) → m ≡ told l → m ≡ told (placeRefusals net k ++ l)
+    unfolding placeNumber
+    placed-asked z m e = e ∙ sym (told-second (placeRefusals net k) l (sym p ∙ z))
 
   -- ---- the interrupt
   pub interrupt-refused : (n ≡ 0 → ⊥) → _≡_ {A = Interrupting} (record { number = n; active = false }) (netInterrupt net k)
@@ -93,45 +89,69 @@ module _ (net : List ℕ) (k n : ℕ) (p : n ≡ placeNumber net k) where
   pub interrupt-done : n ≡ 0 → (g : Regs) (b : Bool) → g ≡ regsAt net k → b ≡ interrupt g
       → _≡_ {A = Interrupting} (record { number = 0; active = b }) (netInterrupt net k)
   unfolding netInterrupt
-  interrupt-done z g b e f = rw (← p, eq-eqb _ _ z, f, e)
+  interrupt-done z g b e f = rw (← p, z, f, e)
 
   -- ---- the page reader
-  pub data-refused : (g : ℕ) → (n ≡ 0 → ⊥) → ([] ≡ netData net k g) × (n ≡ netDataNumber net k g)
-  unfolding netData netDataNumber
-  data-refused g h = (rw (← p, ne-eqb _ _ h), rw (← p, ne-eqb _ _ h))
+  pub data-refused : (g : ℕ) → (n ≡ 0 → ⊥) → [] ≡ netData net k g
+  unfolding netData
+  data-refused g h = rw (← p, ne-eqb _ _ h)
 
-  pub data-done : (g : ℕ) → n ≡ 0 → (r : List ℕ) → r ≡ rowAt net k → (pageData r g ≡ netData net k g) × (dataNumber r g ≡ netDataNumber net k g)
-  unfolding netData netDataNumber
-  data-done g z r e = (rw (← p, eq-eqb _ _ z, e), rw (← p, eq-eqb _ _ z, e))
+  pub data-done : (g : ℕ) → n ≡ 0 → (r : List ℕ) → r ≡ rowAt net k → pageData r g ≡ netData net k g
+  unfolding netData
+  data-done g z r e = rw (← p, eq-eqb _ _ z, e)
 
-  -- ---- the lost-token timer
+-- ---- a call with the number 0, whose refusals are those of the place and its own: its row is there
+module _ (net : List ℕ) (k : ℕ) where
+  placed : (l : List Refusal) → told (placeRefusals net k ++ l) ≡ 0 → placeNumber net k ≡ 0
+  unfolding placeNumber
+  placed l z = told-both (placeRefusals net k) l z .0
+
+  pub read-placed : (g : ℕ) → netReadNumber net k g ≡ 0 → placeNumber net k ≡ 0
+  unfolding netReadNumber
+  read-placed g = placed (readRefusals (regsAt net k) g)
+
+  pub write-placed : (g v : ℕ) → netWriteNumber net k g v ≡ 0 → placeNumber net k ≡ 0
+  unfolding netWriteNumber
+  write-placed g v = placed (rowWriteRefusals net k g v)
+
+  pub timer-placed : timerNumber net k ≡ 0 → placeNumber net k ≡ 0
+  unfolding timerNumber
+  timer-placed = placed (NOTREADY when not (onLineAt net k) ∷ [])
+
+  pub row-there : placeNumber net k ≡ 0 → (shape net ≡ true) × (k < rows net)
+  row-there z = (at-shape net k (placeNumber net k) refl z, at-row net k (placeNumber net k) refl z)
+
+-- ---- reading
+module _ (net : List ℕ) (k g n : ℕ) (p : n ≡ netReadNumber net k g) where
+  pub read-part : n ≡ 0 → (k < rowLimit) × (rowStart k + rowBytes ≤ length net)
+  read-part z = at-part net k (placeNumber net k) refl (read-placed net k g (sym p ∙ z))
+
+  pub read-refused : (n ≡ 0 → ⊥) → (_≡_ {A = Reading} (record { number = n; value = 0 }) (netReading net k g)) × (net ≡ netAfterRead net k g)
+  unfolding netReading netAfterRead
+  read-refused h = (rw (← p, ne-eqb _ _ h), rw (← p, ne-eqb _ _ h))
+
+  pub read-done : n ≡ 0 → (v : ℕ) (s : List ℕ) → v ≡ valueRead (lent net k) g → s ≡ rowAfterRead (lent net k) g
+      → (_≡_ {A = Reading} (record { number = 0; value = v }) (netReading net k g)) × (back net k s ≡ netAfterRead net k g)
+  unfolding netReading netAfterRead
+  read-done z v s a b = (
+    rw (← p, z, a, mid-row),
+    put-row net k s ∙ rw (b ∙ ap (λ (r : List ℕ). rowAfterRead r g) (mid-row net k), ← p, eq-eqb _ _ z),
+  )
+
+-- ---- the lost-token timer
+pub timer-asked : (net : List ℕ) (k : ℕ) (g : Regs) (b : Bool) → g ≡ regsAt net k → b ≡ onLine g → (m : ℕ) → m ≡ refuse DONE NOTREADY (not b)
+    → m ≡ told (NOTREADY when not (onLineAt net k) ∷ [])
+timer-asked net k g b e q m f = f ∙ rw (online-is net k g b e q)
+
+module _ (net : List ℕ) (k n : ℕ) (p : n ≡ timerNumber net k) where
+  pub timer-part : n ≡ 0 → (k < rowLimit) × (rowStart k + rowBytes ≤ length net)
+  timer-part z = at-part net k (placeNumber net k) refl (timer-placed net k (sym p ∙ z))
+
   pub timer-refused : (n ≡ 0 → ⊥) → (n ≡ timerNumber net k) × (net ≡ netAfterTimer net k)
-  unfolding placeNumber timerNumber netAfterTimer
-  timer-refused h = (p ∙ same, rw (← same, ← p, ne-eqb _ _ h))
-    where
-      same : placeNumber net k ≡ timerNumber net k
-      same =
-          ⊎-elim
-          (λ (t : shape net ≡ true). ⊎-elim
-          (λ (u : leb (rows net) k ≡ true). rw (t, u) (placed-row none ∙ sym (placed-row (offLine (not (onLineAt net k))))))
-          (λ (u : leb (rows net) k ≡ false). absurd (h (p ∙ rw (t, u) (placed-card none refl refl ∙ number-none))))
-          (cases (leb (rows net) k)))
-          (λ (t : shape net ≡ false). rw t (placed-shape none _ ∙ sym (placed-shape (offLine (not (onLineAt net k))) _)))
-          (cases (shape net))
+  unfolding netAfterTimer
+  timer-refused h = (p, rw (← p, ne-eqb _ _ h))
 
-  module _ (z : n ≡ 0) (g : Regs) (b : Bool) (e : g ≡ regsAt net k) (q : b ≡ onLine g) (m : ℕ) (f : m ≡ numberOf (offLine (not b))) where
-    timer-number : m ≡ timerNumber net k
-    unfolding timerNumber
-    timer-number =
-        f ∙ rw (online-is net k g b e q) (sym (rw (at-shape z, lt-leb _ _ (at-row z)) (placed-card (offLine (not (onLineAt net k))) refl refl)))
-
-    pub timer-off : (m ≡ 0 → ⊥) → (m ≡ timerNumber net k) × (net ≡ netAfterTimer net k)
-    unfolding netAfterTimer
-    timer-off h = (timer-number, rw (← timer-number, ne-eqb _ _ h))
-
-    pub timer-done : m ≡ 0 → (x : Regs) → x ≡ burst g → (s : List ℕ) → s ≡ putRegs (lent net k) x
-        → (y : List ℕ) → y ≡ turned (back net k s) LOST 0
-        → (0 ≡ timerNumber net k) × (y ≡ netAfterTimer net k)
-    unfolding netAfterTimer
-    timer-done u x d s c y a =
-        (sym u ∙ timer-number, a ∙ rw (← timer-number, eq-eqb _ _ u, put-row, c ∙ ap (λ (r : List ℕ). putRegs r x) (mid-row net k), d, e))
+  pub timer-done : n ≡ 0 → (g : Regs) → g ≡ regsAt net k → (x : Regs) → x ≡ burst g → (s : List ℕ) → s ≡ setRow net k (putRegs (rowAt net k) x)
+      → (y : List ℕ) → y ≡ turned s LOST 0 → (0 ≡ timerNumber net k) × (y ≡ netAfterTimer net k)
+  unfolding netAfterTimer
+  timer-done z g e x d s c y a = (sym z ∙ p, a ∙ rw (← p, eq-eqb _ _ z, c, d, e))

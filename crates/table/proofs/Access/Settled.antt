@@ -2,26 +2,25 @@
 -- Assumes nothing.
 use mathlib.Core.Path.{_≡_, refl, sym, _∙_, ap}
 use mathlib.Core.Bool.{Bool, true, false, not, _&&_}
-use mathlib.Core.List.{List}
+use mathlib.Core.List.{List, [], _∷_}
 use Prim.Native.Nat.{ℕ, _<_}
 use lib.Dec.{eqb, ltb}
 use borrow.Author.Tests.{eq-eqb, ne-eqb}
 use Rattle.card.specs.declared.regs.Regs.{Regs}
-use Rattle.card.specs.Row.{regsOf, putRegs, onLine}
-use Rattle.card.specs.Registers.{writesId, afterWrite}
-use Rattle.card.specs.Refusals.{writeNumber}
+use Rattle.card.specs.Numbers.{DONE, _when_, refuse}
+use Rattle.card.specs.Row.{putRegs, onLine}
+use Rattle.card.specs.Registers.{afterWrite}
+use Rattle.card.specs.Refusals.{writeRefusals, writeNumber}
 use Rattle.card.specs.Access.{rowAfterWrite, rowAfterReset}
 use Rattle.card.specs.Events.{burst}
-use Rattle.card.proofs.Accesses.{write-refused}
-use Rattle.table.specs.Network.{rows, phase, holder, LOST, turned, rowAt, setRow, regsAt, onLineAt, nodeOf, shape}
-use Rattle.table.specs.Calls.{placeNumber, isHolder, settled, online, duplicate, netWriteNumber, netAfterWrite, netAfterReset}
-use Rattle.table.proofs.Rows.Networks.{mid-row, put-row, setRow-rowAt}
+use Rattle.card.proofs.Bools.{and-assoc}
+use Rattle.card.proofs.Order.{told-append}
+use Rattle.table.specs.Numbers.{DUPLICATE}
+use Rattle.table.specs.Network.{rows, phase, holder, LOST, turned, regsAt, onLineAt, nodeOf, shape, rowAt, setRow}
+use Rattle.table.specs.Calls.{placeNumber, isHolder, settled, duplicate, rowWriteRefusals, netWriteNumber, netAfterWrite, netAfterReset}
+use Rattle.table.proofs.Rows.Networks.{mid-row, put-row}
 use Rattle.table.proofs.Online.Nodes.{online-is}
-use Rattle.table.proofs.Access.Placed.{lent, back, row-placed}
-
-and-assoc : (a b c : Bool) → (a && (b && c)) ≡ (a && b && c)
-and-assoc true b c = refl
-and-assoc false b c = refl
+use Rattle.table.proofs.Access.Placed.{lent, back, row-placed, placed-asked}
 
 -- ---- row k, as a call has left it, with the registers g
 module _ (net : List ℕ) (k : ℕ) (was : Bool) (g : Regs) (b : Bool) (p : g ≡ regsAt net k) (q : b ≡ onLine g) where
@@ -58,47 +57,27 @@ module _ (net : List ℕ) (k n : ℕ) (p : n ≡ placeNumber net k) where
   reset-done z was o s c m a =
       (sym z ∙ p, a ∙ rw (put-row, c ∙ ap (λ (r : List ℕ). rowAfterReset r) (mid-row net k), o, ← p, eq-eqb _ _ z))
 
--- ---- writing: ONLINE and DUPLICATE as the code asks them
-module _ (net : List ℕ) (k r : ℕ) (g : Regs) (e : g ≡ regsAt net k) where
-  pub is-online : (was : Bool) → was ≡ onLine g → (i : Bool) → i ≡ writesId g r → (was && i) ≡ online net k r
-  is-online was q i w = rw (online-is net k g was e q, w, e)
+-- ---- writing: DUPLICATE as the code asks it
+pub is-duplicate : (net : List ℕ) (k r : ℕ) (g : Regs) → g ≡ regsAt net k → (v : ℕ) (h : Regs) → h ≡ afterWrite g r v → (n : ℕ) → n ≡ rows net
+    → (on : Bool) → on ≡ onLine h → (f : ℕ) → f ≡ nodeOf net (h .id) k n → (on && ltb f n) ≡ duplicate net k r v
+unfolding duplicate
+is-duplicate net k r g e v h a n l on o f d = rw (o, d, l, a, e)
 
-  pub is-duplicate : (v : ℕ) (h : Regs) → h ≡ afterWrite g r v → (n : ℕ) → n ≡ rows net → (on : Bool) → on ≡ onLine h
-      → (f : ℕ) → f ≡ nodeOf net (h .id) k n → (on && ltb f n) ≡ duplicate net k r v
-  is-duplicate v h a n l on o f d = rw (o, d, l, a, e)
-
-module _ (net : List ℕ) (k n : ℕ) (p : n ≡ placeNumber net k) (r v : ℕ) where
-  write-place : (n ≡ 0 → ⊥) → n ≡ netWriteNumber net k r v
-  unfolding netWriteNumber
-  write-place h = rw (← p, ne-eqb _ _ h)
-
-  pub write-nowhere : (n ≡ 0 → ⊥) → (n ≡ netWriteNumber net k r v) × (net ≡ netAfterWrite net k r v)
+module _ (net : List ℕ) (k r v n : ℕ) (p : n ≡ netWriteNumber net k r v) where
+  pub write-refused : (n ≡ 0 → ⊥) → (n ≡ netWriteNumber net k r v) × (net ≡ netAfterWrite net k r v)
   unfolding netAfterWrite
-  write-nowhere h = (write-place h, rw (← write-place h, ne-eqb _ _ h))
+  write-refused h = (p, rw (← p, ne-eqb _ _ h))
 
--- in a network that SHAPE does not refuse
-module _ (net : List ℕ) (k : ℕ) (p : shape net ≡ true) (q : k < rows net) (r v : ℕ) (x y : Bool)
-    (i : x ≡ online net k r) (j : y ≡ duplicate net k r v) (m : ℕ) (u : m ≡ writeNumber (regsOf (lent net k)) r v x y)
-    (s : List ℕ) (t : s ≡ rowAfterWrite (lent net k) r v x y) where
-  told : m ≡ writeNumber (regsAt net k) r v x y
-  told = u ∙ ap (λ (row : List ℕ). writeNumber (regsOf row) r v x y) (mid-row net k)
-
-  after : s ≡ rowAfterWrite (rowAt net k) r v x y
-  after = t ∙ ap (λ (row : List ℕ). rowAfterWrite row r v x y) (mid-row net k)
-
-  write-number : m ≡ netWriteNumber net k r v
-  unfolding netWriteNumber
-  write-number = told ∙ rw (i, j, row-placed net k p q)
-
-  pub write-off : (m ≡ 0 → ⊥) → (m ≡ netWriteNumber net k r v) × (back net k s ≡ netAfterWrite net k r v)
+  pub write-done : n ≡ 0 → (s : List ℕ) → s ≡ rowAfterWrite (lent net k) r v → (was : Bool) → was ≡ onLineAt net k
+      → (c : List ℕ) → c ≡ settled (back net k s) k was → (0 ≡ netWriteNumber net k r v) × (c ≡ netAfterWrite net k r v)
   unfolding netAfterWrite
-  write-off h = (
-    write-number,
-    put-row net k s ∙ ap (setRow net k) (after ∙ sym (write-refused (rowAt net k) r v m x y (regsAt net k) refl told h .1)) ∙ setRow-rowAt net k
-        ∙ rw (← write-number, ne-eqb _ _ h),
-  )
+  write-done z s t was b c a =
+      (sym z ∙ p, a ∙ rw (put-row, t ∙ ap (λ (row : List ℕ). rowAfterWrite row r v) (mid-row net k), b, ← p, eq-eqb _ _ z))
 
-  pub write-done : m ≡ 0 → (was : Bool) → was ≡ onLineAt net k → (c : List ℕ) → c ≡ settled (back net k s) k was
-      → (0 ≡ netWriteNumber net k r v) × (c ≡ netAfterWrite net k r v)
-  unfolding netAfterWrite
-  write-done h was b c a = (sym h ∙ write-number, a ∙ rw (put-row, after, i, j, b, ← write-number, eq-eqb _ _ h))
+-- in a network that SHAPE does not refuse: the card's number, and DUPLICATE behind it
+pub write-asked : (net : List ℕ) (k : ℕ) → shape net ≡ true → k < rows net → (r v : ℕ) (g : Regs) → g ≡ regsAt net k → (a : ℕ) → a ≡ writeNumber g r v
+    → (d : Bool) → d ≡ duplicate net k r v → (m : ℕ) → m ≡ refuse a DUPLICATE d → m ≡ netWriteNumber net k r v
+unfolding netWriteNumber
+write-asked net k p q r v g e a u d j m t =
+    placed-asked net k 0 (sym (row-placed net k p q)) (rowWriteRefusals net k r v) refl m
+    (t ∙ rw (u, e, j) (sym (told-append (writeRefusals (regsAt net k) r v) (DUPLICATE when duplicate net k r v ∷ []) DONE)))

@@ -1,7 +1,7 @@
 -- In LOST, a write that the card of an off-line row does not refuse: the network does not refuse it either, and what it leaves.
 -- Assumes nothing.
-use mathlib.Core.Path.{_≡_, refl, _∙_, ap}
-use mathlib.Core.Bool.{Bool, true, false, _&&_}
+use mathlib.Core.Path.{_≡_, refl, sym, _∙_, ap}
+use mathlib.Core.Bool.{true, false}
 use mathlib.Core.List.{List}
 use mathlib.Core.Logic.{⊎-elim}
 use Prim.Native.Nat.{ℕ, _+_, _≤_, _<_}
@@ -10,21 +10,23 @@ use lib.Dec.{eqb}
 use lib.ListN.{length}
 use borrow.Author.Tests.{eqb-false, le-ltb}
 use Rattle.card.specs.declared.regs.Regs.{Regs}
+use Rattle.card.proofs.Order.{refuse-passed}
 use Rattle.card.specs.Row.{rowBytes, regsOf, onLine}
 use Rattle.card.specs.Registers.{afterWrite}
 use Rattle.card.specs.Refusals.{writeNumber}
 use Rattle.card.specs.Access.{rowAfterWrite}
 use Rattle.card.specs.Events.{burst}
-use Rattle.card.proofs.Bools.{cases}
+use Rattle.card.proofs.Bools.{cases, and-false}
 use Rattle.card.proofs.Rows.{regs-put, length-put}
 use Rattle.card.proofs.Stays.{length-write}
+use Rattle.table.specs.Numbers.{DUPLICATE}
 use Rattle.table.specs.Network.{rowStart, rows, phase, LOST, rowAt, setRow, onRegs, regsAt, onLineAt, isNode, nodeOf, shape}
 use Rattle.table.specs.Calls.{settled, duplicate, netWriteNumber, netAfterWrite}
 use Rattle.table.proofs.Folds.{seek-not}
 use Rattle.table.proofs.Rows.Networks.{length-rowAt, length-setRow, rowAt-setRow, rowAt-turned}
 use Rattle.table.proofs.Online.Nodes.{other, node-same}
 use Rattle.table.proofs.Shaped.Shapes.{shape-within, shape-row-length}
-use Rattle.table.proofs.Access.Placed.{row-placed}
+use Rattle.table.proofs.Access.Settled.{write-asked}
 use Rattle.table.proofs.Shaped.RowsKeep.{regs-write}
 use Rattle.table.proofs.Access.CallsKeep.{write-keeps}
 use Rattle.table.proofs.Access.Beside.{beside-count, write-beside}
@@ -40,10 +42,6 @@ pub record Written (net new : List ℕ) (k : ℕ) (g : Regs) : Type 0 where
 pub written-same : (net : List ℕ) → shape net ≡ true → phase net ≡ LOST → (k : ℕ) → Written net net k (regsAt net k)
 written-same net s p k = record { shaped = s; lost = p; count = refl; regs = refl; others = λ j l n. refl }
 
-and-false : (b : Bool) → (b && false) ≡ false
-and-false true = refl
-and-false false = refl
-
 nodeOf-none : (net : List ℕ) (i x n : ℕ) → ((j : ℕ) → j < n → (j ≡ x → ⊥) → isNode net i j ≡ false) → nodeOf net i x n ≡ n
 unfolding nodeOf
 nodeOf-none net i x n e = seek-not (other net i x) n each
@@ -55,7 +53,7 @@ nodeOf-none net i x n e = seek-not (other net i x) n each
 
 -- `net` is what writes to row k of `old` have left, with the registers g
 module _ (old net : List ℕ) (k : ℕ) (g : Regs) (w : Written old net k g) (l : k < rows old) (off : onLine g ≡ false) (r v : ℕ)
-    (z : writeNumber g r v false false ≡ 0) where
+    (z : writeNumber g r v ≡ 0) where
   abbrev new : List ℕ
   new = netAfterWrite net k r v
 
@@ -81,26 +79,25 @@ module _ (old net : List ℕ) (k : ℕ) (g : Regs) (w : Written old net k g) (l 
 
   module _ (d : duplicate net k r v ≡ false) where
     taken : netWriteNumber net k r v ≡ 0
-    unfolding netWriteNumber
-    taken = rw (row-placed net k (w .shaped) low, was, d, w .regs) z
+    taken = sym (write-asked net k (w .shaped) low r v g (sym (w .regs)) 0 (sym z) false (sym d) 0 (sym (refuse-passed 0 DUPLICATE false refl)))
 
     abbrev put : List ℕ
-    put = setRow net k (rowAfterWrite (rowAt net k) r v false false)
+    put = setRow net k (rowAfterWrite (rowAt net k) r v)
 
     after : new ≡ settled put k false
     unfolding netAfterWrite
-    after = rw (taken, was, d)
+    after = rw (taken, was)
 
-    size : length (rowAfterWrite (rowAt net k) r v false false) ≡ rowBytes
-    size = length-write (rowAt net k) (shape-row-length net (w .shaped) k low) r v false false
+    size : length (rowAfterWrite (rowAt net k) r v) ≡ rowBytes
+    size = length-write (rowAt net k) (shape-row-length net (w .shaped) k low) r v
 
     inside : rowStart k + rowBytes ≤ length net
     inside = shape-within net (w .shaped) k low
 
     here : regsAt put k ≡ h
     here =
-        ap regsOf (rowAt-setRow net k (rowAfterWrite (rowAt net k) r v false false) inside size)
-        ∙ regs-write (rowAt net k) (shape-row-length net (w .shaped) k low) r v false false (rw (w .regs) z)
+        ap regsOf (rowAt-setRow net k (rowAfterWrite (rowAt net k) r v) inside size)
+        ∙ regs-write (rowAt net k) (shape-row-length net (w .shaped) k low) r v
         ∙ ap (λ (x : Regs). afterWrite x r v) (w .regs)
 
     stays : onLine h ≡ false → regsAt new k ≡ h
@@ -110,7 +107,7 @@ module _ (old net : List ℕ) (k : ℕ) (g : Regs) (w : Written old net k g) (l 
     joins : onLine h ≡ true → regsAt new k ≡ burst h
     unfolding settled onLineAt
     joins q =
-        let m : length (setRow net k (rowAfterWrite (rowAt net k) r v false false)) ≡ length net = length-setRow net k _ inside size in
+        let m : length (setRow net k (rowAfterWrite (rowAt net k) r v)) ≡ length net = length-setRow net k _ inside size in
         let f : rowStart k + rowBytes ≤ length put = omega (arith, inside) in
         let t = length-rowAt put k f in
         rw (after, ap onLine here ∙ q, rowAt-turned, rowAt-setRow put k (onRegs burst (rowAt put k)) f (length-put (rowAt put k) (burst (regsAt put k)) ∙ t))
@@ -118,11 +115,13 @@ module _ (old net : List ℕ) (k : ℕ) (g : Regs) (w : Written old net k g) (l 
 
   -- it stays off line
   pub write-stays : onLine h ≡ false → (netWriteNumber net k r v ≡ 0) × Written old new k h
+  unfolding duplicate
   write-stays q = let d : duplicate net k r v ≡ false = rw (w .regs, q) in (taken d, written h (stays d q))
 
   -- it comes on line, with an ID that no other on-line row has
   pub write-joins : onLine h ≡ true → ((j : ℕ) → j < rows old → (j ≡ k → ⊥) → isNode old (h .id) j ≡ false)
       → (netWriteNumber net k r v ≡ 0) × Written old new k (burst h)
+  unfolding duplicate
   write-joins q e =
       let n : nodeOf net (h .id) k (rows net) ≡ rows net
       = nodeOf-none net (h .id) k (rows net) (λ j lj ne. node-same old net j (w .others j (omega (arith, w .count)) ne) (h .id) ∙ e j (omega (arith, w .count)) ne) in

@@ -11,15 +11,11 @@ use borrow.Author.Tests.{eqb-true, eqb-false, eq-eqb, ne-eqb, not-true}
 use Rattle.card.specs.declared.regs.Regs.{Regs}
 use Rattle.card.specs.Words.{pick}
 use Rattle.card.specs.Row.{onLine}
-use Rattle.card.proofs.Bools.{and-left, and-right, pick-of}
+use Rattle.card.proofs.Bools.{and-left, and-right, and-true, pick-of}
 use Rattle.card.proofs.Kept.{on-line-id}
 use Rattle.table.specs.Folds.{seek}
 use Rattle.table.specs.Network.{rowAt, regsAt, onLineAt, isNode, nodeOf, topId}
 use Rattle.table.proofs.Folds.{clash, seek-at-most, seek-found, seek-least}
-
-and-true : (b : Bool) → (b && true) ≡ b
-and-true true = refl
-and-true false = refl
 
 -- ---- the highest ID
 pub topId-none : (net : List ℕ) → topId net 0 ≡ 0

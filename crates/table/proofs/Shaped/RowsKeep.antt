@@ -1,7 +1,7 @@
--- What the calls leave of a well formed row: a read and a burst keep it, and a write that is not refused gives it the registers that it says.
+-- What the calls leave of a well formed row: a read and a burst keep it, and a write gives it the registers that it says.
 -- Assumes nothing.
 use mathlib.Core.Path.{_≡_, refl, sym, _∙_, ap}
-use mathlib.Core.Bool.{Bool, true, false}
+use mathlib.Core.Bool.{true, false}
 use mathlib.Core.List.{List}
 use Prim.Native.Nat.{ℕ}
 use native.Mathlib.Omega.{arith}
@@ -9,7 +9,6 @@ use lib.ListN.{length}
 use Rattle.card.specs.declared.regs.Regs.{Regs}
 use Rattle.card.specs.Row.{rowBytes, regsOf, putRegs, onLine, wellFormed}
 use Rattle.card.specs.Registers.{pointer, afterWrite, hardwareReset}
-use Rattle.card.specs.Refusals.{writeNumber}
 use Rattle.card.specs.Access.{pointed, rowAfterRead, ramWritten, rowAfterWrite, rowAfterReset}
 use Rattle.card.specs.Events.{burst}
 use Rattle.card.proofs.Rows.{regs-put, well-fit}
@@ -44,9 +43,8 @@ module _ (r : List ℕ) (l : length r ≡ rowBytes) where
   pub reset-off : onLine (regsOf (rowAfterReset r)) ≡ false
   reset-off = ap onLine (regs-put r hardwareReset (omega arith)) ∙ card.reset-off
 
-  pub regs-write : (k v : ℕ) (o d : Bool) → writeNumber (regsOf r) k v o d ≡ 0 → regsOf (rowAfterWrite r k v o d) ≡ afterWrite (regsOf r) k v
-  regs-write k v o d z =
+  pub regs-write : (k v : ℕ) → regsOf (rowAfterWrite r k v) ≡ afterWrite (regsOf r) k v
+  regs-write k v =
       let m = ramWritten r k (pointed r) v in
-      let e : putRegs m (afterWrite (regsOf r) k v) ≡ rowAfterWrite r k v o d
-      = write-done r k v (writeNumber (regsOf r) k v o d) o d (regsOf r) refl refl z (pointer (regsOf r)) refl m refl (afterWrite (regsOf r) k v) refl _ refl .1 in
-      ap regsOf (sym e) ∙ regs-put m (afterWrite (regsOf r) k v) (omega (arith, length-ram r k (pointed r) v))
+      ap regsOf (sym (write-done r k (regsOf r) refl (pointer (regsOf r)) refl v m refl (afterWrite (regsOf r) k v) refl _ refl))
+      ∙ regs-put m (afterWrite (regsOf r) k v) (omega (arith, length-ram r k (pointed r) v))

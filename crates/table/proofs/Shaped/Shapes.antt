@@ -1,7 +1,7 @@
 -- What a network that SHAPE does not refuse is like, part by part, and what makes one.
 -- Assumes nothing.
 use mathlib.Core.Path.{_≡_, sym}
-use mathlib.Core.Bool.{Bool, true, false, _&&_}
+use mathlib.Core.Bool.{true, false, _&&_}
 use mathlib.Core.List.{List}
 use mathlib.Core.Logic.{⊎-elim}
 use Prim.Native.Nat.{ℕ, _+_, _≤_, _<_}
@@ -10,7 +10,7 @@ use lib.Dec.{eqb, leb, ltb}
 use lib.ListN.{length, take, drop}
 use borrow.Author.Tests.{eqb-true, eqb-false, eq-eqb, ne-eqb, ltb-true, ltb-false, lt-ltb, le-leb, not-true}
 use Rattle.card.specs.Row.{rowBytes, zeros, wellFormed}
-use Rattle.card.proofs.Bools.{cases, and-left, and-right}
+use Rattle.card.proofs.Bools.{cases, and-left, and-right, and-five}
 use Rattle.table.specs.Folds.{some}
 use Rattle.table.specs.Network.{headerBytes, rowLimit, rows, phase, holder, LOST, rowStart, rowAt, regsAt, onLineAt, isNode, headerFits, rowsFit, idsDiffer, holderFits, shape}
 use Rattle.table.proofs.Folds.{clash, every-at, every-of, some-fails, some-not}
@@ -69,16 +69,12 @@ unfolding rowsFit
 fits-row net n t k l = every-at (λ (i : ℕ). wellFormed (rowAt net i)) n k t l
 
 -- ---- the parts of SHAPE
-parts : (a b c d e : Bool) → (a && b && c && d && e) ≡ true → (b ≡ true) × (c ≡ true) × (d ≡ true) × (e ≡ true)
-parts a b c d e h =
-    let x = and-left (a && b && c && d) e h in
-    let y = and-left (a && b && c) d x in
-    (and-right a b (and-left (a && b) c y), and-right (a && b) c y, and-right (a && b && c) d x, and-right (a && b && c && d) e h)
-
 module _ (net : List ℕ) (s : shape net ≡ true) where
   tests : (headerFits net ≡ true) × (rowsFit net (rows net) ≡ true) × (idsDiffer net (rows net) ≡ true) × (holderFits net ≡ true)
   unfolding shape
-  tests = parts (leb headerBytes (length net)) (headerFits net) (rowsFit net (rows net)) (idsDiffer net (rows net)) (holderFits net) s
+  tests =
+      let t = and-five (leb headerBytes (length net)) (headerFits net) (rowsFit net (rows net)) (idsDiffer net (rows net)) (holderFits net) s in
+      (t .1, t .2, t .3, t .4)
 
   pub shape-header : headerFits net ≡ true
   shape-header = tests .0

@@ -6,7 +6,7 @@ use Rattle.table.proofs.calls.page_data.Statement.{statement}
 use Rattle.table.proofs.calls.page_data.Tie as tie
 
 returns : tie.Need-returns
-returns c = data-refused _ _ _ (c .before .before .place-number .ensures) _ (c .before .if1 .taken) .0
+returns c = data-refused _ _ _ (c .before .before .place-number .ensures) _ (c .before .if1 .taken)
 
 row-at-requires : tie.Need-row-at-requires
 row-at-requires c κs = at-part _ _ _ (c .before .place-number .ensures) (c .if1 .left) .1
@@ -14,7 +14,7 @@ row-at-requires c κs = at-part _ _ _ (c .before .place-number .ensures) (c .if1
 returns-2 : tie.Need-returns-2
 returns-2 c =
     let i = c .before .before in
-    c .page-data .ensures ∙ data-done _ _ _ (i .before .place-number .ensures) _ (i .if1 .left) _ (c .before .row-at .ensures .0) .0
+    c .page-data .ensures ∙ data-done _ _ _ (i .before .place-number .ensures) _ (i .if1 .left) _ (c .before .row-at .ensures .0)
 
 pub page-data-spec : {M : Type 1} → statement M
 page-data-spec =

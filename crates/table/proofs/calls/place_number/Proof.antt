@@ -9,9 +9,7 @@ use Rattle.table.proofs.calls.place_number.Statement.{statement}
 use Rattle.table.proofs.calls.place_number.Tie as tie
 
 returns : tie.Need-returns
-returns c =
-    let s = c .before .before in
-    place-refused _ _ _ (s .shape .ensures) (s .before .none .result) (s .before .none .ensures) _ (c .before .if1 .taken) (c .number .ensures)
+returns c = place-refused _ _ _ (c .before .shape .ensures) (c .if1 .taken)
 
 rows-requires : tie.Need-rows-requires
 rows-requires c κs = omega (arith, shape-length _ (sym (c .before .shape .ensures) ∙ not-false _ (c .if1 .left)))
@@ -19,12 +17,9 @@ rows-requires c κs = omega (arith, shape-length _ (sym (c .before .shape .ensur
 returns-2 : tie.Need-returns-2
 returns-2 c =
     let i = c .before .before in
-    let s = i .before in
-    place-asked _ _ _ (s .shape .ensures) (s .before .none .result) (s .before .none .ensures) _ (i .if1 .left) _ (c .before .rows .ensures .0)
-    (c .number2 .ensures)
+    place-asked _ _ _ (i .before .shape .ensures) (i .if1 .left) _ (c .before .rows .ensures .0) _ (c .refuse .ensures)
 
 pub place-number-spec : {M : Type 1} → statement M
 place-number-spec =
     tie.close
-    (tie.spec (λ c κs. search needs) (λ c κs. search needs) (λ c κs. search needs) returns rows-requires
-    (λ c κs. search needs) returns-2)
+    (tie.spec (λ c κs. search needs) returns rows-requires (λ c κs. search needs) returns-2)

@@ -1,57 +1,36 @@
 -- `table::calls::timer` meets its contract. Assumes nothing.
-use native.Mathlib.Omega.{arith}
 use borrow.Author.Needs.{needs}
-use Rattle.table.proofs.Access.Placed.{at-part, timer-refused, timer-off, timer-done}
+use Rattle.table.proofs.Access.Placed.{timer-part, timer-refused, timer-done}
 use Rattle.table.proofs.calls.timer.Statement.{statement}
 use Rattle.table.proofs.calls.timer.Tie as tie
 
 returns : tie.Need-returns
-returns c = timer-refused _ _ _ (c .before .place-number .ensures) (c .if1 .taken)
+returns c = timer-refused _ _ _ (c .before .timer-number .ensures) (c .if1 .taken)
 
 regs-at-requires : tie.Need-regs-at-requires
-regs-at-requires c κs = at-part _ _ _ (c .before .before .place-number .ensures) (c .before .if1 .left) .1
+regs-at-requires c κs = timer-part _ _ _ (c .before .before .timer-number .ensures) (c .before .if1 .left) .1
 
-returns-2 : tie.Need-returns-2
-returns-2 c =
-    let n = c .before in
-    let o = n .before in
-    let g = o .before .before in
-    let i = g .before .before in
-    timer-off _ _ _ (i .before .place-number .ensures) (i .if1 .left) _ _ (g .regs-at .ensures) (o .on-line .ensures)
-    _ (simp (o .before .none .ensures) at (n .number .ensures)) (c .if2 .taken)
-
-mul-a : tie.Need-mul-a
-mul-a c = let i = c .before .before .before .before .before .before in omega (arith, at-part _ _ _ (i .before .place-number .ensures) (i .if1 .left))
-
-add-a : tie.Need-add-a
-add-a c = let i = c .before .before .before .before .before .before in omega (arith, at-part _ _ _ (i .before .place-number .ensures) (i .if1 .left))
-
-add-store : tie.Need-add-store
-add-store c = let i = c .before .before .before .before .before .before in omega (arith, at-part _ _ _ (i .before .place-number .ensures) (i .if1 .left))
-
-part-store-end : tie.Need-part-store-end
-part-store-end c = let i = c .before .before .before .before .before .before in omega (arith, at-part _ _ _ (i .before .place-number .ensures) (i .if1 .left))
+put-regs-requires : tie.Need-put-regs-requires
+put-regs-requires c κs =
+    let i = c .before .before .before .before in
+    timer-part _ _ _ (i .before .timer-number .ensures) (i .if1 .left) .1
 
 turn-requires : tie.Need-turn-requires
 turn-requires c κs =
-    let i = c .before .before .before .before .before .before .before .before .before .before .before .before in
-    let h = at-part _ _ _ (i .before .place-number .ensures) (i .if1 .left) in
+    let i = c .before .before .before .before .before .before .before .before in
+    let h = timer-part _ _ _ (i .before .timer-number .ensures) (i .if1 .left) in
     search needs
 
-returns-3 : tie.Need-returns-3
-returns-3 c =
+returns-2 : tie.Need-returns-2
+returns-2 c =
     let t = c .before .before in
-    let s = t .before .before .before .before in
-    let f = s .before .before .before in
-    let o = f .before .before in
-    let g = o .before .before in
-    let i = g .before .before in
-    timer-done _ _ _ (i .before .place-number .ensures) (i .if1 .left) _ _ (g .regs-at .ensures) (o .on-line .ensures)
-    _ (simp (o .before .none .ensures) at (f .before .number .ensures)) (f .if2 .left) _ (s .before .burst .ensures) _ (s .store .ensures) _ (t .turn .ensures)
+    let p = t .before .before .before .before in
+    let b = p .before .before in
+    let i = b .before .before .before in
+    timer-done _ _ _ (i .before .timer-number .ensures) (i .if1 .left) _ (b .before .regs-at .ensures) _ (b .burst .ensures) _ (p .put-regs .ensures) _ (t .turn .ensures)
 
 pub timer-spec : {M : Type 1} → statement M
 timer-spec =
     tie.close
-    (tie.spec (λ c κs. search needs) (λ c. search needs) returns regs-at-requires (λ c κs. search needs) (λ c κs. search needs)
-    (λ c κs. search needs) (λ c. search needs) returns-2 mul-a add-a add-store (λ c. search needs) (λ c. search needs)
-    part-store-end (λ c κs. search needs) (λ c κs. search needs) turn-requires (λ c. search needs) returns-3)
+    (tie.spec (λ c κs. search needs) (λ c. search needs) returns regs-at-requires (λ c κs. search needs) put-regs-requires turn-requires
+    (λ c. search needs) returns-2)

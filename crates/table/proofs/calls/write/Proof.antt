@@ -1,12 +1,14 @@
 -- `table::calls::write` meets its contract. Assumes nothing.
 use borrow.Author.Needs.{needs}
-use Rattle.table.proofs.Access.Placed.{at-shape, at-row}
-use Rattle.table.proofs.Access.Settled.{write-nowhere}
+use Rattle.table.specs.Calls.{netWriteNumber}
+use Rattle.table.proofs.Access.Placed.{at-shape, at-row, placed-refused}
+use Rattle.table.proofs.Access.Settled.{write-refused}
 use Rattle.table.proofs.calls.write.Statement.{statement}
 use Rattle.table.proofs.calls.write.Tie as tie
 
 returns : tie.Need-returns
-returns c = write-nowhere _ _ _ (c .before .place-number .ensures) _ _ (c .if1 .taken)
+unfolding netWriteNumber
+returns c = write-refused _ _ _ _ _ (placed-refused _ _ _ (c .before .place-number .ensures) _ (c .if1 .taken)) (c .if1 .taken)
 
 write-on-requires : tie.Need-write-on-requires
 write-on-requires c κs =

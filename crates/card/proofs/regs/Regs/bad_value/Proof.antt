@@ -1,9 +1,11 @@
 -- `card::regs::Regs::bad_value` meets its contract. Assumes nothing.
+use Rattle.card.specs.Refusals.{badValue}
 use borrow.Author.Needs.{needs}
 use Rattle.card.proofs.regs.Regs.bad_value.Statement.{statement}
 use Rattle.card.proofs.regs.Regs.bad_value.Tie as tie
 
 returns : tie.Need-returns
+unfolding badValue
 returns c = simp (c .sub-address .ensures, c .before .illegal .ensures, c .before .before .decode .ensures)
 
 pub bad-value-spec : {M : Type 1} → statement M

@@ -1,9 +1,11 @@
 -- `card::regs::Regs::no_register` meets its contract. Assumes nothing.
+use Rattle.card.specs.Refusals.{noRegister}
 use borrow.Author.Needs.{needs}
 use Rattle.card.proofs.regs.Regs.no_register.Statement.{statement}
 use Rattle.card.proofs.regs.Regs.no_register.Tie as tie
 
 returns : tie.Need-returns
+unfolding noRegister
 returns c = simp (c .sub-address .ensures)
 
 pub no-register-spec : {M : Type 1} → statement M
