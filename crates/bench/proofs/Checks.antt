@@ -1,28 +1,36 @@
--- SHAPE alone: its number is 0 exactly if the network is well formed.
+-- SHAPE alone: its number is 0 exactly if the network is well formed. And the lists of the bench's own calls rise: "The smallest number wins".
 -- Assumes nothing.
-use mathlib.Core.Path.{_≡_, sym, _∙_}
+use mathlib.Core.Path.{_≡_, refl, sym, _∙_}
 use mathlib.Core.Bool.{Bool, true, not}
 use mathlib.Core.List.{List}
 use Prim.Native.Nat.{ℕ}
-use lib.Dec.{lit<}
 use lib.ListN.{length}
 use borrow.Author.Tests.{not-false}
-use Rattle.card.specs.declared.numbers.Cases.{Cases}
-use Rattle.card.specs.CaseFields.{with-shape}
-use Rattle.card.specs.Numbers.{none, numberOf}
-use Rattle.card.proofs.Order.{none-holds}
+use Rattle.card.specs.Numbers.{DONE, refuse, Smallest}
+use Rattle.card.proofs.Order.{none-refuses, smallest}
+use Rattle.table.specs.Numbers.{SHAPE}
 use Rattle.table.specs.Network.{rowStart, rows, shape}
+use Rattle.table.specs.Calls.{placeRefusals}
 use Rattle.table.proofs.Shaped.Shapes.{shape-length}
-use Rattle.bench.specs.Calls.{shapeNumber}
+use Rattle.bench.specs.Calls.{shapeRefusals, shapeNumber, wideRefusals, wideNumber}
+
+module _ (net : List ℕ) where
+  pub smallest-shape : Smallest (shapeRefusals net) (shapeNumber net)
+  unfolding shapeNumber
+  smallest-shape = smallest (shapeRefusals net) refl
+
+  pub smallest-wide : (row register : ℕ) → Smallest (wideRefusals net row register) (wideNumber net row register)
+  unfolding wideNumber placeRefusals
+  smallest-wide row register = smallest (wideRefusals net row register) refl
 
 module _ (net : List ℕ) (r : ℕ) where
-  pub shape-told : (s : Bool) → s ≡ shape net → (t : Cases) → t ≡ none → r ≡ numberOf (with-shape (not s) t) → r ≡ shapeNumber net
+  pub shape-told : (s : Bool) → s ≡ shape net → r ≡ refuse DONE SHAPE (not s) → r ≡ shapeNumber net
   unfolding shapeNumber
-  shape-told s e t z h = h ∙ rw (z, e)
+  shape-told s e h = h ∙ rw e
 
   well-formed : r ≡ shapeNumber net → r ≡ 0 → shape net ≡ true
   unfolding shapeNumber
-  well-formed e z = not-false (shape net) (none-holds (with-shape (not (shape net)) none) (sym e ∙ z) 0 (lit< tt))
+  well-formed e z = not-false (shape net) (none-refuses (shapeRefusals net) refl (sym e ∙ z) SHAPE)
 
   -- a network with the number 0 has a header, and each of its rows
   pub whole-network : r ≡ shapeNumber net → r ≡ 0 → length net ≡ rowStart (rows net)

@@ -1,29 +1,23 @@
 -- A write of any number: a byte goes to the line's call, and a greater one is refused.
 -- Assumes nothing.
 use mathlib.Core.Path.{_≡_, _∙_}
-use mathlib.Core.Bool.{true}
+use mathlib.Core.Bool.{Bool, true}
 use mathlib.Core.List.{List}
 use Prim.Native.Nat.{ℕ, _≤_, _<_}
-use borrow.Author.Tests.{eq-eqb, ne-eqb, le-leb, lt-leb}
+use borrow.Author.Tests.{le-leb, lt-leb}
 use Rattle.card.specs.declared.regs.Regs.{Regs}
-use Rattle.card.specs.declared.numbers.Cases.{Cases}
-use Rattle.card.specs.CaseFields.{with-value}
-use Rattle.card.specs.Numbers.{numberOf}
-use Rattle.card.specs.Refusals.{readCases}
+use Rattle.card.specs.Numbers.{DONE, REGISTER, VALUE, refuse}
+use Rattle.card.specs.Refusals.{noRegister}
 use Rattle.table.specs.Network.{regsAt}
 use Rattle.table.specs.Calls.{placeNumber, netWriteNumber, netAfterWrite}
+use Rattle.table.proofs.Access.Placed.{placed-asked}
 use Rattle.bench.specs.Calls.{wideNumber, valueNumber, netAfterValue}
 
 module _ (net : List ℕ) (row register : ℕ) where
-  module _ (n : ℕ) (e : n ≡ placeNumber net row) where
-    pub wide-refused : (n ≡ 0 → ⊥) → n ≡ wideNumber net row register
-    unfolding wideNumber
-    wide-refused h = rw (← e, ne-eqb _ _ h)
-
-    pub wide-asked : n ≡ 0 → (g : Regs) → g ≡ regsAt net row → (t : Cases) → t ≡ readCases g register → (r : ℕ)
-        → r ≡ numberOf (with-value true t) → r ≡ wideNumber net row register
-    unfolding wideNumber
-    wide-asked z g eg t et r er = er ∙ rw (← e, eq-eqb _ _ z, et, eg)
+  pub wide-asked : (n : ℕ) → n ≡ placeNumber net row → n ≡ 0 → (g : Regs) → g ≡ regsAt net row → (b : Bool) → b ≡ noRegister g register
+      → (m : ℕ) → m ≡ refuse DONE REGISTER b → (r : ℕ) → r ≡ refuse m VALUE true → r ≡ wideNumber net row register
+  unfolding wideNumber
+  wide-asked n p z g eg b eb m em r er = placed-asked net row n p _ z r (er ∙ rw (em, eb, eg))
 
   module _ (value : ℕ) where
     pub value-wide : 255 < value → (r : ℕ) → r ≡ wideNumber net row register

@@ -1,20 +1,23 @@
 -- The calls that the line and the desk do not have as they are.
 -- Assumes nothing.
 use mathlib.Core.Bool.{Bool, true, not}
-use mathlib.Core.List.{List, _++_}
+use mathlib.Core.List.{List, [], _∷_, _++_}
 use Prim.Native.Nat.{ℕ, _+_}
-use lib.Dec.{eqb, leb}
+use lib.Dec.{leb}
 use lib.ListN.{length, take, drop}
 use Rattle.card.specs.Words.{pick}
-use Rattle.card.specs.CaseFields.{with-shape, with-value}
-use Rattle.card.specs.Numbers.{none, numberOf}
-use Rattle.card.specs.Refusals.{readCases}
+use Rattle.card.specs.Numbers.{REGISTER, VALUE, Refusal, _when_, told}
+use Rattle.card.specs.Refusals.{noRegister}
+use Rattle.table.specs.Numbers.{SHAPE}
 use Rattle.table.specs.Network.{regsAt, shape}
-use Rattle.table.specs.Calls.{placeNumber, netWriteNumber, netAfterWrite}
+use Rattle.table.specs.Calls.{placeRefusals, netWriteNumber, netAfterWrite}
 
--- "1 SHAPE", or 0
+-- "1 SHAPE", or DONE
+abbrev pub shapeRefusals : List ℕ → List Refusal
+shapeRefusals net = SHAPE when not (shape net) ∷ []
+
 unfoldable pub shapeNumber : List ℕ → ℕ
-shapeNumber net = numberOf (with-shape (not (shape net)) none)
+shapeNumber net = told (shapeRefusals net)
 
 -- "stores bytes at AT, all inside the length"
 abbrev pub inside : List ℕ → ℕ → ℕ → Bool
@@ -23,10 +26,12 @@ inside net at n = leb (at + n) (length net)
 unfoldable pub poked : List ℕ → ℕ → List ℕ → List ℕ
 poked net at s = pick (inside net at (length s)) (take at net ++ (s ++ drop (at + length s) net)) net
 
--- a value above 255 is VALUE, unless SHAPE, ROW or REGISTER is the smaller number; a register is there for a write exactly if it is for a read
+-- a value above 255 is VALUE, unless SHAPE, ROW or REGISTER is the smaller number
+abbrev pub wideRefusals : List ℕ → ℕ → ℕ → List Refusal
+wideRefusals net row register = placeRefusals net row ++ (REGISTER when noRegister (regsAt net row) register ∷ VALUE when true ∷ [])
+
 unfoldable pub wideNumber : List ℕ → ℕ → ℕ → ℕ
-wideNumber net row register =
-    pick (eqb (placeNumber net row) 0) (numberOf (with-value true (readCases (regsAt net row) register))) (placeNumber net row)
+wideNumber net row register = told (wideRefusals net row register)
 
 -- a write of any number
 unfoldable pub valueNumber : List ℕ → ℕ → ℕ → ℕ → ℕ

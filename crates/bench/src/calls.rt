@@ -9,7 +9,10 @@ ghost use Rattle.desk.specs.Lap.{netAfterLap};
 ghost use Rattle.bench.specs.Input.{LINE};
 ghost use Rattle.bench.specs.Calls.{shapeNumber, inside, poked, wideNumber, valueNumber, netAfterValue};
 use crate::answers::refused;
-use card::numbers::Cases;
+use card::numbers::DONE;
+use card::numbers::REGISTER;
+use card::numbers::VALUE;
+use card::numbers::refuse;
 use desk::laps::Taker;
 use print::gather::ROOM;
 use print::gather::end;
@@ -18,14 +21,13 @@ use print::gather::text;
 use table::network::ROWS;
 use table::network::regs_at;
 use table::network::shape;
+use table::numbers::SHAPE;
 
 // SHAPE alone: 0 where the network is well formed.
 pub fn shape_number(net: &[u8]) -> u8
     ensures { λ r. ⌜ r ≡ shapeNumber (now (net .entry)) ⌝ }
 {
-    let mut cases = Cases::none();
-    cases.shape = !shape(net);
-    cases.number()
+    refuse(DONE, SHAPE, !shape(net))
 }
 
 // Whether the n bytes at `at` all stand inside the lent ones.
@@ -63,18 +65,16 @@ pub fn load(net: &mut [u8], digits: &[u8]) -> u8
     desk::loading::load(&order[0..n], net)
 }
 
-// A value above 255 has a bit that no register names: 4, VALUE, unless SHAPE, ROW or REGISTER is the smaller number.
-// A register is there for a write exactly if it is for a read.
+// A value above 255 has a bit that no register names: VALUE, unless SHAPE, ROW or REGISTER is the smaller number.
 fn wide_value(net: &[u8], row: usize, register: usize) -> u8
     ensures { λ r. ⌜ r ≡ wideNumber (now (net .entry)) row register ⌝ }
 {
     let number = table::calls::place_number(net, row);
-    if number != 0 {
+    if number != DONE {
         return number;
     }
-    let mut cases = regs_at(net, row).read_cases(register);
-    cases.value = true;
-    cases.number()
+    let n = refuse(DONE, REGISTER, regs_at(net, row).no_register(register));
+    refuse(n, VALUE, true)
 }
 
 // A register of a row is written.

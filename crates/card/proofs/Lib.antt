@@ -6,6 +6,7 @@ pub mod Rows
 pub mod Fits
 pub mod Keeps
 pub mod Order
+pub mod Rising
 pub mod Calls
 pub mod LineKeeps
 pub mod Zeros

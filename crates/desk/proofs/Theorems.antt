@@ -3,3 +3,4 @@ pub mod Demanded
 pub mod LapCall
 pub mod Summed
 pub mod Promised
+pub mod Rising

@@ -6,17 +6,17 @@ use mathlib.Core.Path.{_≡_}
 use Prim.Native.Nat.{ℕ, zero, suc, _+_, _*_, _≤_}
 use lib.Dec.{eqb, ltb}
 use lib.ListN.{length, take, drop, replicate}
-use Rattle.card.specs.declared.numbers.Cases.{Cases}
 use Rattle.card.specs.Words.{pick}
-use Rattle.card.specs.CaseFields.{with-shape, with-busy, with-alone, with-room}
-use Rattle.card.specs.Numbers.{none, numberOf}
+use Rattle.card.specs.Numbers.{BUSY, Refusal, _when_, told}
 use Rattle.line.specs.declared.step.Answer.{Answer}
 use Rattle.line.specs.declared.step.Answer.the-variants.{Refused, Quiet, Recovered, Passed, Unanswered, TokenLost, Held}
+use Rattle.table.specs.Numbers.{SHAPE, ROOM}
 use Rattle.table.specs.Folds.{seek}
 use Rattle.table.specs.Network.{rowLimit, rows, phase, holder, LOST, regsAt, onLineAt, shape}
 use Rattle.line.specs.Step.{step, answerValue}
 use Rattle.desk.specs.declared.laps.Taker.{Taker}
 use Rattle.desk.specs.declared.laps.Lapped.{Lapped}
+use Rattle.desk.specs.Numbers.{ALONE}
 
 -- "Here n counts the nodes on line": of the first k rows
 unfoldable pub online : List ℕ → ℕ → ℕ
@@ -87,12 +87,15 @@ lapSteps net = suc (seek (back net) (256 + 2 * nodes net))
 
 -- ---- the call
 -- "1 SHAPE", "7 BUSY: lap outside LOST", "12 ALONE: lap with fewer than two on line", "13 ROOM: lent list shorter than n on line"
-abbrev pub lapCases : (shape busy alone room : Bool) → Cases
-lapCases shape busy alone room = with-shape shape (with-busy busy (with-alone alone (with-room room none)))
+unfoldable pub lapRefusals : List ℕ → ℕ → List Refusal
+lapRefusals net room =
+    SHAPE when not (shape net)
+    ∷ BUSY when not (eqb (phase net) LOST)
+    ∷ ALONE when ltb (nodes net) 2
+    ∷ ROOM when ltb room (nodes net) ∷ []
 
 unfoldable pub lapNumber : List ℕ → ℕ → ℕ
-lapNumber net room =
-    numberOf (lapCases (not (shape net)) (not (eqb (phase net) LOST)) (ltb (nodes net) 2) (ltb room (nodes net)))
+lapNumber net room = told (lapRefusals net room)
 
 abbrev pub runs : List ℕ → ℕ → Bool
 runs net room = eqb (lapNumber net room) 0

@@ -1,13 +1,16 @@
 -- Document 01, "Order forms and the lap": loading.
 -- Assumes nothing.
-use mathlib.Core.Bool.{true}
-use mathlib.Core.List.{List}
+use mathlib.Core.Bool.{not}
+use mathlib.Core.List.{List, [], _∷_}
 use Prim.Native.Nat.{ℕ, zero, suc}
 use lib.Dec.{eqb}
+use lib.ListN.{length}
 use Rattle.card.specs.Words.{pick, has}
-use Rattle.card.specs.CaseFields.{with-order}
-use Rattle.card.specs.Numbers.{none, numberOf}
-use Rattle.table.specs.Calls.{netAfterWrite, freshNumber, netAfterFresh}
+use Rattle.card.specs.Numbers.{Refusal, _when_, told}
+use Rattle.table.specs.Numbers.{ROOM}
+use Rattle.table.specs.Network.{rowStart}
+use Rattle.table.specs.Calls.{netAfterWrite, netAfterFresh}
+use Rattle.desk.specs.Numbers.{ORDER}
 use Rattle.desk.specs.Order.{records, recordAt, idAt, flagsOf, RECEIVE, LONG, orderFits}
 
 -- "per row in order: configuration 19, node ID, command 0D if long, command 84 if receive on, configuration 38": each is the register write itself
@@ -34,9 +37,16 @@ unfoldable pub loadedRows : List ℕ → List ℕ → ℕ → List ℕ
 loadedRows order net zero = net
 loadedRows order net (suc k) = loadedRow (loadedRows order net k) k (idAt order k) (flagsOf (recordAt order k))
 
--- "14 ORDER: order not as above"; "13 ROOM: .. loaded network not of exact length"; "loading tests ORDER before ROOM"
+-- "14 ORDER: order not as above"; "13 ROOM: .. loaded network not of exact length". The one list that does not rise: "The smallest number wins, but loading
+-- tests ORDER before ROOM"
+abbrev pub roomRefusals : List ℕ → List ℕ → List Refusal
+roomRefusals order net = ROOM when not (eqb (length net) (rowStart (records order))) ∷ []
+
+unfoldable pub loadRefusals : List ℕ → List ℕ → List Refusal
+loadRefusals order net = ORDER when not (orderFits order) ∷ roomRefusals order net
+
 unfoldable pub loadNumber : List ℕ → List ℕ → ℕ
-loadNumber order net = pick (orderFits order) (freshNumber net (records order)) (numberOf (with-order true none))
+loadNumber order net = told (loadRefusals order net)
 
 -- "Loading does so with a row for each record": the fresh call, and then the rows
 unfoldable pub netAfterLoad : List ℕ → List ℕ → List ℕ

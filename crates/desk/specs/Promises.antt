@@ -5,19 +5,21 @@ use mathlib.Core.Bool.{Bool, true, false}
 use mathlib.Core.List.{List, []}
 use Prim.Native.Nat.{ℕ, _+_, _*_, _≤_, _<_}
 use lib.ListN.{length, getD}
+use Rattle.card.specs.Numbers.{Smallest}
 use Rattle.card.specs.Packets.{shapeOf, dataBytes, CanBeSent, malformed}
 use Rattle.card.specs.Bystander.{Bystander, Storing, Sends}
 use Rattle.line.specs.declared.traffic.Outcome.{Outcome}
 use Rattle.line.specs.declared.step.Answer.the-variants.{Held}
 use Rattle.table.specs.Network.{headerBytes, rowLimit, rows, phase, holder, TAKEN, rowAt, regsAt, shape, SameFrame, OnlyRow}
-use Rattle.table.specs.Calls.{placeNumber, netReading, netAfterRead, netWriteNumber, netAfterWrite, netAfterReset, timerNumber, netAfterTimer, netInterrupt, netData, netDataNumber, freshNumber, netAfterFresh}
-use Rattle.line.specs.Step.{step, answerNumber, answerValue}
+use Rattle.table.specs.Calls.{placeRefusals, placeNumber, netReadRefusals, netReading, netAfterRead, netWriteRefusals, netWriteNumber, netAfterWrite, netAfterReset, timerRefusals, timerNumber, netAfterTimer, netInterrupt, netData, netDataRefusals, netDataNumber, freshRefusals, freshNumber, netAfterFresh}
+use Rattle.line.specs.Step.{stepRefusals, step, answerNumber, answerValue}
 use Rattle.line.specs.Outcomes.{stores, HolderLeft, meets}
 use Rattle.desk.specs.declared.laps.Taker.{Taker}
 use Rattle.desk.specs.declared.laps.Lapped.{Lapped}
+use Rattle.desk.specs.Numbers.{ORDER}
 use Rattle.desk.specs.Order.{records, orderFits, nameAt}
-use Rattle.desk.specs.Load.{loadNumber, netAfterLoad}
-use Rattle.desk.specs.Lap.{nodes, after, answers, takers, lapSteps, lapNumber, lapped, netAfterLap, lapTakers, listAfterLap, Walks}
+use Rattle.desk.specs.Load.{roomRefusals, loadNumber, netAfterLoad}
+use Rattle.desk.specs.Lap.{nodes, after, answers, takers, lapSteps, lapRefusals, lapNumber, lapped, netAfterLap, lapTakers, listAfterLap, Walks}
 use Rattle.desk.specs.Demand.{Call, table, steps, answersOf, Throughout, LapOf}
 
 -- ---- "A refusal returns 0, or length 0, beside its number, and no lent byte or entry changes": the number is a refusal's
@@ -36,6 +38,20 @@ pub record RefusalsChangeNothing : Type 0 where
   pub load : (order net : List ℕ) → Refused (loadNumber order net) → netAfterLoad order net ≡ net
   pub walk : (net : List ℕ) (room : ℕ) → Refused (lapNumber net room) → (lapped net room .total ≡ 0) × ((netAfterLap net room ≡ net) × (lapTakers net room ≡ []))
   pub lap : (net : List ℕ) (list : List Taker) → Refused (lapNumber net (length list)) → listAfterLap net list ≡ list
+
+-- ---- "The smallest number wins, but loading tests ORDER before ROOM": each call's refusals, and the number that it tells
+pub record SmallestWins : Type 0 where
+  pub read : (net : List ℕ) (k g : ℕ) → Smallest (netReadRefusals net k g) (netReading net k g .number)
+  pub write : (net : List ℕ) (k g v : ℕ) → Smallest (netWriteRefusals net k g v) (netWriteNumber net k g v)
+  pub reset : (net : List ℕ) (k : ℕ) → Smallest (placeRefusals net k) (placeNumber net k)
+  pub timer : (net : List ℕ) (k : ℕ) → Smallest (timerRefusals net k) (timerNumber net k)
+  pub interrupt : (net : List ℕ) (k : ℕ) → Smallest (placeRefusals net k) (netInterrupt net k .number)
+  pub page-data : (net : List ℕ) (k p : ℕ) → Smallest (netDataRefusals net k p) (netDataNumber net k p)
+  pub fresh : (net : List ℕ) (n : ℕ) → Smallest (freshRefusals net n) (freshNumber net n)
+  pub step-of : (net : List ℕ) (fault : ℕ) → Smallest (stepRefusals net fault) (answerNumber (step net fault .answer))
+  pub lap : (net : List ℕ) (room : ℕ) → Smallest (lapRefusals net room) (lapped net room .number)
+  pub load-order : (order net : List ℕ) → orderFits order ≡ false → loadNumber order net ≡ ORDER
+  pub load-room : (order net : List ℕ) → orderFits order ≡ true → Smallest (roomRefusals order net) (loadNumber order net)
 
 -- ---- demand 2, "no other byte moves": a call that names a row changes, but for phase and holder, that row alone, and a read leaves these too. A step leaves
 -- the length and, but for phase and holder, the header. A row that is not the holder in TAKEN stores the packet of the step or does not: one that does had RI 0

@@ -6,7 +6,10 @@ ghost use Prim.Native.Nat.{_≤_};
 ghost use lib.ListN.{length, take, drop};
 ghost use Rattle.table.specs.Network.{rowLimit, LOST, rowStart, phase, shape};
 ghost use Rattle.desk.specs.Lap.{online, nodes, invitation, passed, invitations, takers, answers, after, lapSteps, lapNumber, lapped, netAfterLap, listAfterLap, nobody, Walks};
-use card::numbers::Cases;
+use crate::numbers::ALONE;
+use card::numbers::BUSY;
+use card::numbers::DONE;
+use card::numbers::refuse;
 use line::step::Answer;
 use line::step::step_on;
 use table::network::LOST;
@@ -15,6 +18,8 @@ use table::network::phase;
 use table::network::regs_at;
 use table::network::rows;
 use table::network::shape;
+use table::numbers::ROOM;
+use table::numbers::SHAPE;
 
 // A row that took the token: its node ID, its number from 0, and the invitations since the holder before.
 pub struct Taker {
@@ -23,7 +28,7 @@ pub struct Taker {
     pub invitations: u16,
 }
 
-// What the lap call answers: the refusal's number, 0 for none, and the total, 0 beside a refusal.
+// What the lap call answers: the refusal's number, DONE for none, and the total, 0 beside a refusal.
 pub struct Lapped {
     pub number: u8,
     pub total: u16,
@@ -86,16 +91,13 @@ fn online(net: &[u8], n: usize) -> usize
 fn lap_number(net: &[u8], room: usize) -> u8
     ensures { λ r. ⌜ r ≡ lapNumber (now (net .entry)) room ⌝ }
 {
-    let mut cases = Cases::none();
     if !shape(net) {
-        cases.shape = true;
-        return cases.number();
+        return SHAPE;
     }
     let nodes = online(net, rows(net));
-    cases.busy = phase(net) != LOST;
-    cases.alone = nodes < 2;
-    cases.room = room < nodes;
-    cases.number()
+    let n = refuse(DONE, BUSY, phase(net) != LOST);
+    let n = refuse(n, ALONE, nodes < 2);
+    refuse(n, ROOM, room < nodes)
 }
 
 // A list of takers with nobody in it yet.
@@ -145,7 +147,10 @@ fn run(net: &mut [u8]) -> Walked
         }
     }
     Walked {
-        lapped: Lapped { number: 0, total },
+        lapped: Lapped {
+            number: DONE,
+            total,
+        },
         n,
         list,
     }
@@ -156,7 +161,7 @@ pub fn walk(net: &mut [u8], room: usize) -> Walked
     ensures { λ r. ⌜ Walks (now (net .entry)) room (r .n) (r .list) (r .lapped) (now (net .exit)) ⌝ }
 {
     let number = lap_number(net, room);
-    if number != 0 {
+    if number != DONE {
         return Walked {
             lapped: Lapped { number, total: 0 },
             n: 0,

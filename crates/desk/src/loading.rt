@@ -4,13 +4,14 @@ ghost use mathlib.Core.Bool.{true};
 ghost use Prim.Native.Nat.{_<_};
 ghost use Rattle.table.specs.Network.{rows, shape};
 ghost use Rattle.desk.specs.Load.{loadedRow, loadNumber, netAfterLoad};
+use crate::numbers::ORDER;
 use crate::orders::LONG;
 use crate::orders::RECEIVE;
 use crate::orders::flags_at;
 use crate::orders::id_at;
 use crate::orders::order_fits;
 use crate::orders::records;
-use card::numbers::Cases;
+use card::numbers::DONE;
 use table::calls::fresh;
 use table::calls::write_on;
 
@@ -54,13 +55,11 @@ pub fn load(order: &[u8], net: &mut [u8]) -> u8
     ensures bytes { λ _. ⌜ now (net .exit) ≡ netAfterLoad (now (order .entry)) (now (net .entry)) ⌝ }
 {
     if !order_fits(order) {
-        let mut cases = Cases::none();
-        cases.order = true;
-        return cases.number();
+        return ORDER;
     }
     let n = records(order);
     let number = fresh(net, n);
-    if number != 0 {
+    if number != DONE {
         return number;
     }
     let mut k = 0;
@@ -68,5 +67,5 @@ pub fn load(order: &[u8], net: &mut [u8]) -> u8
         load_row(net, k, id_at(order, k), flags_at(order, k));
         k += 1;
     }
-    0
+    DONE
 }

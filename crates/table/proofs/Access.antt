@@ -9,3 +9,4 @@ pub mod Writes
 pub mod Calm
 pub mod Others
 pub mod Refused
+pub mod Rising

@@ -2,12 +2,13 @@
 -- Assumes nothing.
 use mathlib.Core.Path.{_≡_, refl, sym, _∙_}
 use mathlib.Core.Logic.{_≢_}
-use mathlib.Core.Bool.{Bool, true, false, _&&_}
+use mathlib.Core.Bool.{Bool, true, false}
 use mathlib.Core.List.{List, [], _∷_, _++_}
 use Prim.Native.Nat.{ℕ, zero, suc, _+_, _%_, _<_, _≤_}
 use native.Mathlib.Nat.{add-zero}
 use native.Mathlib.Omega.{arith}
 use borrow.Author.Tests.{eq-eqb, ne-eqb}
+use Rattle.card.proofs.Bools.{and-false}
 use Rattle.desk.proofs.ById.Ring.{Took, Missed, next, upd, heeds, turn, Runs, stop, go, calls, script}
 
 -- the last of g and the list
@@ -25,10 +26,6 @@ upd-same f g v = rw (eq-eqb g g refl)
 
 pub upd-other : (f : ℕ → ℕ) (g v y : ℕ) → y ≢ g → upd f g v y ≡ f y
 upd-other f g v y h = rw (ne-eqb y g h)
-
-pub and-false : (b : Bool) → (b && false) ≡ false
-and-false true = refl
-and-false false = refl
 
 -- y is none of the k IDs from a on
 abbrev pub Off : ℕ → ℕ → ℕ → Type 0

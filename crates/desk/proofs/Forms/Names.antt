@@ -12,7 +12,7 @@ use lib.Dec.{eqb, leb, ltb}
 use lib.ListN.{length, getD, take, drop, length-drop, drop-of-length-le}
 use lib.Seq.{take-all, drop-cons, drop-drop, getD-drop}
 use borrow.Author.Tests.{eq-eqb, ne-eqb, ltb-true, ltb-false, lt-ltb, le-ltb, le-leb, lt-leb}
-use Rattle.card.proofs.Bools.{cases}
+use Rattle.card.proofs.Bools.{cases, and-false}
 use Rattle.desk.specs.Order.{recordBytes, records, recordAt, nameOf, printable, printables, spaces, trimmed, nameAt}
 
 -- ---- printing characters
@@ -53,10 +53,6 @@ spaces-end s i h = rw (drop-of-length-le s h)
 pub spaces-more : (s : List ℕ) (i : ℕ) → i < length s → getD s i 0 ≡ 0x20 → spaces (drop (suc i) s) ≡ true → spaces (drop i s) ≡ true
 unfolding spaces
 spaces-more s i h e t = rw (drop-cons s i 0 h, eq-eqb _ _ e, t)
-
-and-false : (a : Bool) → (a && false) ≡ false
-and-false true = refl
-and-false false = refl
 
 -- a name with a byte other than a space
 spaces-not : (l : List ℕ) (n : ℕ) → n < length l → (getD l n 0 ≡ 0x20 → ⊥) → spaces l ≡ false

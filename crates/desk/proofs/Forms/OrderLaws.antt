@@ -1,7 +1,7 @@
 -- What an order that ORDER does not refuse is like, part by part, and what makes one.
 -- Assumes nothing.
 use mathlib.Core.Path.{_≡_, sym}
-use mathlib.Core.Bool.{Bool, true, false, not, _&&_}
+use mathlib.Core.Bool.{Bool, true, false, not}
 use mathlib.Core.List.{List, [], _∷_}
 use mathlib.Core.Logic.{⊎-elim}
 use Prim.Native.Nat.{ℕ, _*_, _%_, _≤_, _<_}
@@ -9,7 +9,7 @@ use native.Mathlib.Omega.{arith}
 use lib.Dec.{eqb, leb, ltb, lit<}
 use lib.ListN.{length, getD}
 use borrow.Author.Tests.{eqb-true, eq-eqb, ne-eqb, ltb-true, ltb-false, lt-ltb, leb-true, le-leb, not-true}
-use Rattle.card.proofs.Bools.{cases, and-left, and-right, holds}
+use Rattle.card.proofs.Bools.{cases, and-five, holds}
 use Rattle.table.specs.Network.{rowLimit}
 use Rattle.table.proofs.Folds.{clash, every-at, every-of, some-fails, some-not}
 use Rattle.desk.specs.Order.{recordBytes, records, recordAt, mark, idOf, flagsOf, nameOf, printables, recordFits, recordsFit, idAt, idsDiffer, orderFits}
@@ -77,19 +77,12 @@ ids-differ-of order n d = every-of (first order) n (λ k l. rw (some-not (λ j. 
     apart k l j b = ne-eqb _ _ (λ e. let z = d j k (omega arith) l e in omega arith)
 
 -- ---- the parts of ORDER
-parts : (a b c d e : Bool) → (a && b && c && d && e) ≡ true → (a ≡ true) × (b ≡ true) × (c ≡ true) × (d ≡ true) × (e ≡ true)
-parts a b c d e h =
-    let x = and-left (a && b && c && d) e h in
-    let y = and-left (a && b && c) d x in
-    let z = and-left (a && b) c y in
-    (and-left a b z, and-right a b z, and-right (a && b) c y, and-right (a && b && c) d x, and-right (a && b && c && d) e h)
-
 module _ (order : List ℕ) (o : orderFits order ≡ true) where
   told : (eqb (length order % recordBytes) 0 ≡ true) × (ltb 0 (records order) ≡ true) × (leb (records order) rowLimit ≡ true)
       × (recordsFit order (records order) ≡ true) × (idsDiffer order (records order) ≡ true)
   unfolding orderFits
   told =
-      parts (eqb (length order % recordBytes) 0) (ltb 0 (records order)) (leb (records order) rowLimit) (recordsFit order (records order))
+      and-five (eqb (length order % recordBytes) 0) (ltb 0 (records order)) (leb (records order) rowLimit) (recordsFit order (records order))
       (idsDiffer order (records order)) o
 
   pub order-length : length order ≡ recordBytes * records order

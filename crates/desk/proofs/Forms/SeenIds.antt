@@ -1,6 +1,6 @@
 -- The seen-table of the records' IDs: what it holds after the records below k, kept by a turn of the loop.
 -- Assumes nothing.
-use mathlib.Core.Path.{_≡_, refl, sym, _∙_, ap}
+use mathlib.Core.Path.{_≡_, sym, _∙_, ap}
 use mathlib.Core.Bool.{Bool, true, false, not, _||_}
 use mathlib.Core.Logic.{⊎-elim}
 use mathlib.Core.List.{List}
@@ -10,14 +10,10 @@ use lib.Dec.{eqb}
 use lib.ListN.{length, getD, set, replicate, length-set, length-replicate, getD-replicate}
 use lib.Seq.{getD-set-same, getD-set-other}
 use borrow.Author.Tests.{eqb-true, eqb-false}
-use Rattle.card.proofs.Bools.{cases, or-true}
+use Rattle.card.proofs.Bools.{cases, or-false, or-true}
 use Rattle.table.specs.Folds.{every, some}
 use Rattle.table.proofs.Folds.{every-none, every-more, every-broken, some-none, some-more}
 use Rattle.desk.specs.Order.{idAt, idsDiffer}
-
-or-false : (a : Bool) → (a || false) ≡ a
-or-false true = refl
-or-false false = refl
 
 -- the ID i is that of a record below k; record k is the first with its ID
 abbrev pub taken : List ℕ → ℕ → ℕ → Bool

@@ -1,6 +1,6 @@
 -- Loading as the code goes: each write keeps SHAPE and the number of rows, whatever the rows were, and the calls put together give the network.
 -- Assumes nothing.
-use mathlib.Core.Path.{_≡_, refl, sym, _∙_}
+use mathlib.Core.Path.{_≡_, refl, sym, _∙_, ap}
 use mathlib.Core.Bool.{Bool, true, false, not}
 use mathlib.Core.List.{List}
 use Prim.Native.Nat.{ℕ, zero, suc, _+_, _≤_, _<_}
@@ -9,19 +9,17 @@ use native.Mathlib.Omega.{arith}
 use lib.Bits.{bitAnd}
 use lib.ListN.{length}
 use borrow.Author.Tests.{eq-eqb, ne-eqb, not-true, not-false}
-use Rattle.card.specs.declared.numbers.Cases.{Cases}
 use Rattle.card.specs.Words.{pick, has}
-use Rattle.card.specs.CaseFields.{with-order}
-use Rattle.card.specs.Numbers.{none, numberOf}
-use Rattle.card.proofs.Order.{number-order}
 use Rattle.table.specs.Network.{rows, shape}
 use Rattle.table.specs.Calls.{netAfterWrite, freshNumber, netAfterFresh, freshNet}
-use Rattle.table.proofs.Access.Fresh.{fresh-refused, fresh-net, header-fresh}
+use Rattle.table.proofs.Access.Fresh.{fresh-refused, fresh-room, fresh-net, header-fresh}
 use Rattle.table.proofs.Access.CallsKeep.{write-keeps, fresh-keeps}
 use Rattle.table.proofs.Access.Beside.{beside-count, write-beside}
+use Rattle.desk.specs.Numbers.{ORDER}
 use Rattle.desk.specs.Order.{records, recordAt, idAt, flagsOf, RECEIVE, LONG, orderFits}
 use Rattle.desk.specs.Load.{set19, setId, setLong, setReceive, loadedRow, loadedRows, loadNumber, netAfterLoad}
 use Rattle.desk.proofs.Forms.OrderLaws.{order-records}
+use Rattle.desk.proofs.Loads.Loaded.{load-order, load-room}
 
 -- `new` may be written where `net` may
 pub record Ready (net new : List ℕ) : Type 0 where
@@ -89,18 +87,18 @@ module _ (order net : List ℕ) where
 
 -- ---- the call
 module _ (order net : List ℕ) (f : Bool) (e : f ≡ orderFits order) where
-  pub is-unfit : not f ≡ true → (t : Cases) → t ≡ none → (r : ℕ) → r ≡ numberOf (with-order true t)
-      → (r ≡ loadNumber order net) × (net ≡ netAfterLoad order net)
-  unfolding loadNumber netAfterLoad
-  is-unfit h t z r q = (q ∙ rw (z, ← e, not-true f h), rw (← e, not-true f h, number-order))
+  pub is-unfit : not f ≡ true → (ORDER ≡ loadNumber order net) × (net ≡ netAfterLoad order net)
+  unfolding netAfterLoad
+  is-unfit h = let n = load-order order net (sym e ∙ not-true f h) in (sym n, rw n)
 
   module _ (h : not f ≡ false) (n : ℕ) (c : n ≡ records order) (m : ℕ) (p : m ≡ freshNumber net n) (x : List ℕ) (q : x ≡ netAfterFresh net n) where
     fits : orderFits order ≡ true
     fits = sym e ∙ not-false f h
 
     number : m ≡ loadNumber order net
-    unfolding loadNumber
-    number = p ∙ rw (fits, c)
+    number =
+        let b = order-records order fits in
+        p ∙ ap (freshNumber net) c ∙ fresh-room net (records order) (b .0) (b .1) ∙ sym (load-room order net fits)
 
     pub is-refused : (m ≡ 0 → ⊥) → (m ≡ loadNumber order net) × (x ≡ netAfterLoad order net)
     unfolding netAfterLoad

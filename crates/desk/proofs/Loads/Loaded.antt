@@ -1,7 +1,7 @@
 -- Loading an order that fits: no write is refused, and the network has a row on line for each record, with its ID, in LOST.
 -- Assumes nothing.
 use mathlib.Core.Path.{_≡_, sym, _∙_, ap}
-use mathlib.Core.Bool.{true, false}
+use mathlib.Core.Bool.{true, false, not}
 use mathlib.Core.List.{List}
 use mathlib.Core.Logic.{⊎-elim}
 use Prim.Native.Nat.{ℕ, zero, suc, _≤_, _<_}
@@ -10,22 +10,24 @@ use native.Mathlib.Omega.{arith}
 use lib.Dec.{eqb, ltb}
 use lib.ListN.{length}
 use borrow.Author.Tests.{ne-eqb, ltb-true, ltb-false}
-use Rattle.card.specs.Words.{pick}
 use Rattle.card.specs.Row.{regsOf}
 use Rattle.card.specs.Registers.{hardwareReset}
+use Rattle.card.specs.Numbers.{DONE, told}
+use Rattle.card.proofs.Order.{refuse-held, refuse-passed, refuse-stays}
+use Rattle.table.specs.Numbers.{ROOM}
 use Rattle.card.specs.Access.{freshRow}
 use Rattle.card.proofs.Bools.{cases}
-use Rattle.card.proofs.Order.{number-order}
 use Rattle.card.proofs.Stays.{fresh-off}
 use Rattle.card.proofs.Loads.{regs-fresh}
-use Rattle.table.specs.Network.{rowStart, rows, phase, LOST, rowAt, regsAt, onLineAt, isNode, shape}
+use Rattle.table.specs.Network.{rows, phase, LOST, rowAt, regsAt, onLineAt, isNode, shape, rowStart}
 use Rattle.table.specs.Calls.{netAfterFresh, freshNet}
 use Rattle.table.proofs.Folds.{clash}
 use Rattle.table.proofs.Online.Nodes.{online-is, node-online, node-id, online-same}
 use Rattle.table.proofs.Access.Fresh.{fresh-room, fresh-net, header-fresh, rowAt-fresh}
 use Rattle.table.proofs.Access.CallsKeep.{fresh-keeps}
+use Rattle.desk.specs.Numbers.{ORDER}
 use Rattle.desk.specs.Order.{records, recordAt, idAt, flagsOf, orderFits}
-use Rattle.desk.specs.Load.{loadedRow, loadedRows, loadNumber, netAfterLoad}
+use Rattle.desk.specs.Load.{loadedRow, loadedRows, roomRefusals, loadRefusals, loadNumber, netAfterLoad}
 use Rattle.desk.proofs.Forms.OrderLaws.{order-records, order-id, order-differ}
 use Rattle.desk.proofs.Loads.LoadRow.{Unrefused, row-unrefused, row-loaded, row-on}
 
@@ -104,14 +106,16 @@ module _ (order : List ℕ) (o : orderFits order ≡ true) where
   loaded-first zero l = loaded-none
   loaded-first (suc k) l = loaded-more (loadedRows order (freshNet (records order)) k) k (loaded-first k (omega arith)) l
 
--- ---- the number: ORDER, then ROOM
-pub load-order : (order net : List ℕ) → orderFits order ≡ false → loadNumber order net ≡ 14
-unfolding loadNumber
-load-order order net o = rw o number-order
+-- ---- the number: ORDER, and then ROOM, as the fresh call tells it
+module _ (order net : List ℕ) where
+  pub load-order : orderFits order ≡ false → loadNumber order net ≡ ORDER
+  unfolding loadNumber loadRefusals
+  load-order o =
+      rw (refuse-held ORDER (not (orderFits order)) (ap not o), refuse-stays ORDER ROOM (not (eqb (length net) (rowStart (records order)))) (λ z. omega arith))
 
-pub load-room : (order net : List ℕ) → orderFits order ≡ true → loadNumber order net ≡ pick (eqb (length net) (rowStart (records order))) 0 13
-unfolding loadNumber
-load-room order net o = let r = order-records order o in rw o (fresh-room net (records order) (r .0) (r .1))
+  pub load-room : orderFits order ≡ true → loadNumber order net ≡ told (roomRefusals order net)
+  unfolding loadNumber loadRefusals
+  load-room o = rw (refuse-passed DONE ORDER (not (orderFits order)) (ap not o))
 
 -- ---- an order that is loaded
 module _ (order net : List ℕ) (z : loadNumber order net ≡ 0) where
@@ -119,8 +123,9 @@ module _ (order net : List ℕ) (z : loadNumber order net ≡ 0) where
   loaded-fits = ⊎-elim (λ t. t) (λ t. absurd (let e = load-order order net t in omega arith)) (cases (orderFits order))
 
   made : netAfterFresh net (records order) ≡ freshNet (records order)
-  unfolding loadNumber
-  made = fresh-net net (records order) (rw loaded-fits at z)
+  made =
+      let r = order-records order loaded-fits in
+      fresh-net net (records order) (fresh-room net (records order) (r .0) (r .1) ∙ sym (load-room order net loaded-fits) ∙ z)
 
   pub never-refused : (k : ℕ) → k < records order
       → Unrefused (loadedRows order (netAfterFresh net (records order)) k) k (idAt order k) (flagsOf (recordAt order k))

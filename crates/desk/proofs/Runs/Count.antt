@@ -11,7 +11,7 @@ use lib.ListN.{length}
 use lib.Dec.{eqb, ltb}
 use borrow.Author.Tests.{eqb-true, eqb-false, ltb-true, ltb-false}
 use Rattle.card.specs.Words.{pick}
-use Rattle.card.proofs.Bools.{cases, and-right, pick-of}
+use Rattle.card.proofs.Bools.{cases, and-right, or-false, or-true, pick-of}
 use Rattle.table.specs.Folds.{some}
 use Rattle.table.specs.Network.{regsAt, onLineAt, isNode, topId}
 use Rattle.table.proofs.Folds.{clash, some-none, some-more, some-not}
@@ -50,14 +50,6 @@ module _ (p q : ℕ → Bool) (z : ℕ) (yes′ : p z ≡ true) (no′ : q z ≡
 abbrev pub onFirst : List ℕ → ℕ → ℕ → Bool
 onFirst net n x = some (isNode net x) n
 
-or-false : (a b : Bool) → b ≡ false → (a || b) ≡ a
-or-false true b e = refl
-or-false false b e = e
-
-or-left : (a b : Bool) → b ≡ true → (a || b) ≡ true
-or-left true b e = refl
-or-left false b e = e
-
 not-node : (net : List ℕ) (k x : ℕ) → (isNode net x k ≡ true → ⊥) → isNode net x k ≡ false
 not-node net k x n = ⊎-elim (λ t. absurd (n t)) (λ f. f) (cases (isNode net x k))
 
@@ -66,13 +58,13 @@ module _ (net : List ℕ) (k : ℕ) where
   more x = rw (← add-one) (some-more (isNode net x) k)
 
   off-same : onLineAt net k ≡ false → onFirst net (suc k) ≡ onFirst net k
-  off-same o = fun-ext (λ x. more x ∙ or-false (onFirst net k x) (isNode net x k) (not-node net k x (λ t. clash (node-online net k x t) o)))
+  off-same o = fun-ext (λ x. more x ∙ rw (not-node net k x (λ t. clash (node-online net k x t) o)) (or-false (onFirst net k x)))
 
   on-here : onLineAt net k ≡ true → onFirst net (suc k) (regsAt net k .id) ≡ true
-  on-here o = let i = regsAt net k .id in more i ∙ or-left (onFirst net k i) (isNode net i k) (node-of net k i o refl)
+  on-here o = let i = regsAt net k .id in more i ∙ rw (node-of net k i o refl) (or-true (onFirst net k i))
 
   on-other : (x : ℕ) → x ≢ regsAt net k .id → onFirst net (suc k) x ≡ onFirst net k x
-  on-other x n = more x ∙ or-false (onFirst net k x) (isNode net x k) (not-node net k x (λ t. n (sym (node-id net k x t))))
+  on-other x n = more x ∙ rw (not-node net k x (λ t. n (sym (node-id net k x t)))) (or-false (onFirst net k x))
 
 -- IDs of on-line rows differ and are bytes
 pub record Ids (net : List ℕ) (n : ℕ) : Type 0 where

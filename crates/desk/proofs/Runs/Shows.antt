@@ -8,7 +8,7 @@ use Prim.Native.Nat.{ℕ, _<_, _≤_}
 use native.Mathlib.Omega.{arith}
 use lib.Dec.{eqb}
 use borrow.Author.Tests.{ne-eqb, eqb-false}
-use Rattle.card.proofs.Bools.{cases}
+use Rattle.card.proofs.Bools.{cases, and-false}
 use Rattle.table.specs.Network.{rows, phase, holder, PASS, TAKEN, regsAt, onLineAt, isNode, shape}
 use Rattle.line.specs.Step.{invited, taker}
 use Rattle.table.proofs.Folds.{clash, some-at, some-not}
@@ -17,7 +17,6 @@ use Rattle.table.proofs.Online.Nodes.{node-of, node-online, node-id, nodeOf-mos
 use Rattle.line.proofs.Steps.View.{Rams}
 use Rattle.table.specs.Network.{SameNodes}
 use Rattle.desk.proofs.ById.Ring.{Ring, heeds}
-use Rattle.desk.proofs.ById.Scan.{and-false}
 use Rattle.desk.proofs.Runs.Count.{onFirst}
 
 abbrev pub phaseOf : Bool → ℕ

@@ -8,5 +8,4 @@ use Rattle.bench.proofs.calls.shape_number.Tie as tie
 pub shape-number-spec : {M : Type 1} → statement M
 shape-number-spec =
     tie.close
-    (tie.spec (λ c κs. search needs) (λ c κs. search needs) (λ c κs. search needs)
-    (λ c. shape-told _ _ _ (c .before .shape .ensures) _ (c .before .before .none .ensures) (c .number .ensures)))
+    (tie.spec (λ c κs. search needs) (λ c κs. search needs) (λ c. shape-told _ _ _ (c .before .shape .ensures) (c .refuse .ensures)))

@@ -9,9 +9,7 @@ use Rattle.desk.proofs.laps.lap_number.Statement.{statement}
 use Rattle.desk.proofs.laps.lap_number.Tie as tie
 
 returns : tie.Need-returns
-returns c =
-    let s = c .before .before in
-    no-shape _ _ _ (s .shape .ensures) (s .before .none .result) (s .before .none .ensures) _ (c .before .if1 .taken) (c .number .ensures)
+returns c = no-shape _ _ _ (c .before .shape .ensures) (c .if1 .taken)
 
 rows-requires : tie.Need-rows-requires
 rows-requires c κs = omega (arith, shape-length _ (sym (c .before .shape .ensures) ∙ not-false _ (c .if1 .left)))
@@ -28,15 +26,15 @@ phase-requires c κs =
 
 returns-2 : tie.Need-returns-2
 returns-2 c =
-    let p = c .before in
+    let n = c .before .before in
+    let p = n .before in
     let m = p .before in
     let i = m .before .before in
-    let s = i .before in
-    asked _ _ _ (s .shape .ensures) (i .if1 .left) (s .before .none .result) (s .before .none .ensures) _ (m .before .rows .ensures .0) _ (m .online .ensures .0)
-    _ (p .phase .ensures) _ (c .number2 .ensures)
+    asked _ _ _ (i .before .shape .ensures) (i .if1 .left) _ (m .before .rows .ensures .0) _ (m .online .ensures .0)
+    _ (p .phase .ensures) _ (n .refuse .ensures) _ (c .before .refuse2 .ensures) _ (c .refuse3 .ensures)
 
 pub lap-number-spec : {M : Type 1} → statement M
 lap-number-spec =
     tie.close
-    (tie.spec (λ c κs. search needs) (λ c κs. search needs) (λ c κs. search needs) returns rows-requires online-requires
-    phase-requires (λ c κs. search needs) returns-2)
+    (tie.spec (λ c κs. search needs) returns rows-requires online-requires phase-requires (λ c κs. search needs)
+    (λ c κs. search needs) (λ c κs. search needs) returns-2)

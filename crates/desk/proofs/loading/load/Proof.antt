@@ -19,9 +19,9 @@ abbrev μ-loop : tie.MeasureT-loop
 
 returns : tie.Need-returns Inv-loop μ-loop
 returns c =
-    let o = c .before .before .before in
+    let o = c .before in
     let a = o .before .before .before .args in
-    is-unfit (a .order .now) (a .net .now) _ (o .order-fits .ensures) (c .before .before .if1 .taken) _ (c .before .none .ensures) _ (c .number .ensures)
+    is-unfit (a .order .now) (a .net .now) _ (o .order-fits .ensures) (c .if1 .taken)
 
 returns-2 : tie.Need-returns-2 Inv-loop μ-loop
 returns-2 c =
@@ -72,6 +72,6 @@ returns-3 c =
 pub load-spec : {M : Type 1} → statement M
 load-spec =
     tie.close
-    (tie.spec Inv-loop μ-loop (λ c κs. search needs) (λ c κs. search needs) (λ c κs. search needs) returns (λ c κs. search needs)
+    (tie.spec Inv-loop μ-loop (λ c κs. search needs) returns (λ c κs. search needs)
     (λ c κs. search needs) (λ c. search needs) returns-2 loop-holds id-at-requires flags-at-requires load-row-requires
     (λ c. search needs) (λ c. search needs) loop-again (λ c. search needs) returns-3)

@@ -1,0 +1,26 @@
+-- "The smallest number wins, but loading tests ORDER before ROOM": the list of each call rises, but for loading's.
+-- Assumes nothing.
+use mathlib.Core.Path.{refl}
+use Rattle.card.proofs.Order.{smallest}
+use Rattle.table.proofs.Access.Rising.{place-smallest, read-smallest, write-smallest, timer-smallest, interrupt-smallest, data-smallest, fresh-smallest}
+use Rattle.line.proofs.Steps.Refused.{step-smallest}
+use Rattle.desk.specs.Load.{roomRefusals}
+use Rattle.desk.specs.Lap.{lapRefusals, lapNumber, lapped}
+use Rattle.desk.specs.Promises.{SmallestWins}
+use Rattle.desk.proofs.Loads.Loaded.{load-order, load-room}
+
+pub smallest-wins : SmallestWins
+unfolding lapRefusals lapNumber lapped
+smallest-wins = record {
+  read = read-smallest;
+  write = write-smallest;
+  reset = place-smallest;
+  timer = timer-smallest;
+  interrupt = interrupt-smallest;
+  page-data = data-smallest;
+  fresh = fresh-smallest;
+  step-of = step-smallest;
+  lap = λ net room. smallest (lapRefusals net room) refl;
+  load-order = load-order;
+  load-room = λ order net o. rw (load-room order net o) (smallest (roomRefusals order net) refl);
+}
