@@ -7,7 +7,7 @@ use Prim.Native.Nat.{ℕ}
 use lib.ListN.{length}
 use borrow.Author.Tests.{not-false}
 use Rattle.card.specs.Numbers.{DONE, refuse, Smallest}
-use Rattle.card.proofs.Order.{none-refuses, smallest}
+use Rattle.card.proofs.Told.Smallest.{none-refuses, smallest}
 use Rattle.table.specs.Numbers.{SHAPE}
 use Rattle.table.specs.Network.{rowStart, rows, shape}
 use Rattle.table.specs.Calls.{placeRefusals}

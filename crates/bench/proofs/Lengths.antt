@@ -10,7 +10,7 @@ use lib.ListN.{take, drop}
 use borrow.Author.Tests.{ltb-false}
 use borrow.Rule.Slice.PartMut.{midOf, putMid}
 use Rattle.card.specs.Words.{pick}
-use Rattle.card.proofs.Bools.{pick-of}
+use Rattle.card.proofs.Words.Bools.{pick-of}
 use Rattle.words.specs.Words.{word, count, spaced}
 use Rattle.words.specs.Hex.{hexFits}
 use Rattle.bench.specs.declared.requests.Word.{Word}

@@ -17,7 +17,7 @@ use Rattle.card.specs.Commands.{commandOf}
 use Rattle.card.specs.Registers.{pointer, stepped, hardwareReset, configured}
 use Rattle.card.specs.Packets.{shapeOf, dataBytes, CanBeSent, malformed}
 use Rattle.card.specs.Events.{risenNid}
-use Rattle.card.proofs.Bools.{and-right, pick-of}
+use Rattle.card.proofs.Words.Bools.{and-right, pick-of}
 
 -- COUNT of a short packet, whatever byte 3 is and whatever the page; of a long one
 module _ (next : ℕ) (long : Bool) where

@@ -2,5 +2,5 @@ pub mod Forms
 pub mod Loads
 pub mod ById
 pub mod Runs
-pub mod Call
+pub mod Lapping
 pub mod Theorems

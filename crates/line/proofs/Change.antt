@@ -1,7 +1,7 @@
 -- The changes that a step is made of, and what each does to a row.
 pub mod Carry
-pub mod RegsKeep
-pub mod TrafficKeep
+pub mod Registers
+pub mod Stored
 pub mod Changes
-pub mod ChangesKeep
+pub mod Made
 pub mod Paths

@@ -2,8 +2,8 @@
 pub mod Placed
 pub mod Settled
 pub mod Fresh
-pub mod SettledKeep
-pub mod CallsKeep
+pub mod ShapeSettled
+pub mod ShapeCalls
 pub mod Beside
 pub mod Writes
 pub mod Calm

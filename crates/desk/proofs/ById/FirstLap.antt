@@ -9,17 +9,17 @@ use native.Mathlib.Omega.{arith}
 use lib.Dec.{eqb}
 use lib.ListN.{length, length-append}
 use borrow.Author.Tests.{ne-eqb}
-use Rattle.desk.proofs.ById.Ring.{Call, Took, Missed, Spoke, Ring, next, upd, turn, Runs, go, calls, roster, script}
-use Rattle.desk.proofs.ById.Scan.{last, Linked, Off, off-later, off-here, own, hear, miss, scan, Scanned, Ready, upd-same, upd-other}
+use Rattle.desk.proofs.ById.Ring.{Telling, Took, Missed, Spoke, Ring, next, upd, turn, Runs, go, calls, roster, script}
+use Rattle.desk.proofs.ById.Scan.{last, Linked, Off, off-later, off-here, own, hear, miss, scan, Scanned, Scanning, upd-same, upd-other}
 use Rattle.desk.proofs.ById.Roster.{takes, invites, takes-append, invites-append, script-takes, script-counts, rotate, roster-is, last-any}
 
 -- the call is not that h took the token
-abbrev pub other : ℕ → Call → Bool
+abbrev pub other : ℕ → Telling → Bool
 other h (Took x) = eqb x h
 other h (Missed x) = false
 other h Spoke = false
 
-abbrev pub Never : ℕ → List Call → Type 0
+abbrev pub Never : ℕ → List Telling → Type 0
 Never h [] = Unit {0}
 Never h (a ∷ l) = (other h a ≡ false) × Never h l
 
@@ -40,7 +40,7 @@ module _ (on : ℕ → Bool) where
   module _ (h : ℕ) (small : h < 256) (live : on h ≡ true) (top : (y : ℕ) → h < y → y < 256 → on y ≡ false) (two : 2 ≤ length (roster on))
       (f : ℕ → ℕ) (fresh : (y : ℕ) → on y ≡ true → f y ≡ y) where
     -- before h takes the token again: h invites itself, then the others are met
-    abbrev pub before : List Call
+    abbrev pub before : List Telling
     before = Missed h ∷ script on (suc h) 255
 
     many : length (roster on) ≡ suc (length (calls on (suc h) 255))
@@ -55,7 +55,7 @@ module _ (on : ℕ → Bool) where
         others : length (roster on) ≡ suc (length (calls on (suc h) 255)) → 0 < length (calls on (suc h) 255)
         others m = omega arith
 
-    pub begin : Ready on (suc h) 255 h (upd f h (next h))
+    pub begin : Scanning on (suc h) 255 h (upd f h (next h))
     begin = record {
       room = omega arith;
       here = upd-same f h _ ∙ omega arith;

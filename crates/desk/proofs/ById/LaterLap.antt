@@ -7,13 +7,13 @@ use mathlib.Core.List.{List, [], _∷_, _++_}
 use Prim.Native.Nat.{ℕ, zero, suc, _+_, _*_, _%_, _<_, _≤_}
 use native.Mathlib.Omega.{arith}
 use lib.ListN.{length}
-use Rattle.desk.proofs.ById.Ring.{Call, Took, Spoke, Ring, Runs, stop, go, calls, roster}
+use Rattle.desk.proofs.ById.Ring.{Telling, Took, Spoke, Ring, Runs, stop, go, calls, roster}
 use Rattle.desk.proofs.ById.Scan.{last, Linked, Off, off-first, off-later, off-here, hear}
 use Rattle.desk.proofs.ById.Roster.{takes, invites, roster-is}
 use Rattle.desk.proofs.ById.FirstLap.{lap, back, begin}
 
 -- what is told: each in turn has its turn, and passes the token to the next
-abbrev pub settled : List ℕ → List Call
+abbrev pub settled : List ℕ → List Telling
 settled [] = []
 settled (x ∷ xs) = Spoke ∷ Took x ∷ settled xs
 

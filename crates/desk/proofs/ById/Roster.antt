@@ -7,29 +7,29 @@ use Prim.Native.Nat.{ℕ, zero, suc, _+_, _*_, _-_, _%_, _<_, _≤_}
 use native.Mathlib.Nat.{add-zero, zero-add, add-suc, suc-add}
 use native.Mathlib.Omega.{arith}
 use lib.ListN.{length}
-use Rattle.desk.proofs.ById.Ring.{Call, Took, Missed, Spoke, calls, roster, script}
+use Rattle.desk.proofs.ById.Ring.{Telling, Took, Missed, Spoke, calls, roster, script}
 use Rattle.desk.proofs.ById.Scan.{last}
 
 -- who takes the token, in the order of taking; the invitations
-abbrev pub takes : List Call → List ℕ
+abbrev pub takes : List Telling → List ℕ
 takes [] = []
 takes (Took x ∷ l) = x ∷ takes l
 takes (Missed x ∷ l) = takes l
 takes (Spoke ∷ l) = takes l
 
-abbrev pub invites : List Call → ℕ
+abbrev pub invites : List Telling → ℕ
 invites [] = 0
 invites (Took x ∷ l) = suc (invites l)
 invites (Missed x ∷ l) = suc (invites l)
 invites (Spoke ∷ l) = invites l
 
-pub takes-append : (l m : List Call) → takes (l ++ m) ≡ takes l ++ takes m
+pub takes-append : (l m : List Telling) → takes (l ++ m) ≡ takes l ++ takes m
 takes-append [] m = refl
 takes-append (Took x ∷ l) m = ap (x ∷_) (takes-append l m)
 takes-append (Missed x ∷ l) m = takes-append l m
 takes-append (Spoke ∷ l) m = takes-append l m
 
-pub invites-append : (l m : List Call) → invites (l ++ m) ≡ invites l + invites m
+pub invites-append : (l m : List Telling) → invites (l ++ m) ≡ invites l + invites m
 invites-append [] m = omega arith
 invites-append (Took x ∷ l) m = rw (invites-append l m) (omega arith)
 invites-append (Missed x ∷ l) m = rw (invites-append l m) (omega arith)

@@ -8,7 +8,7 @@ use Prim.Native.Nat.{ℕ, zero, suc, _+_, _%_, _<_, _≤_}
 use native.Mathlib.Nat.{add-zero}
 use native.Mathlib.Omega.{arith}
 use borrow.Author.Tests.{eq-eqb, ne-eqb}
-use Rattle.card.proofs.Bools.{and-false}
+use Rattle.card.proofs.Words.Bools.{and-false}
 use Rattle.desk.proofs.ById.Ring.{Took, Missed, next, upd, heeds, turn, Runs, stop, go, calls, script}
 
 -- the last of g and the list
@@ -69,7 +69,7 @@ module _ (on : ℕ → Bool) where
   fresh-here a k f w o = rw add-zero at (w 0 (omega arith) (rw add-zero o))
 
   -- g holds and invites a next
-  pub record Ready (a k g : ℕ) (f : ℕ → ℕ) : Type 0 where
+  pub record Scanning (a k g : ℕ) (f : ℕ → ℕ) : Type 0 where
     pub room : k ≤ 255
     pub here : f g ≡ a % 256
     pub away : Off g a k
@@ -82,9 +82,9 @@ module _ (on : ℕ → Bool) where
     pub linked : Linked nid g (calls on a k ++ ((a + k) % 256 ∷ []))
     pub frame : (y : ℕ) → y ≢ g → Off y a k → nid y ≡ f y
 
-  module _ (k a g : ℕ) (f : ℕ → ℕ) (r : Ready a (suc k) g f) where
-    ready-off : Ready (suc a) k g (upd f g (next (a % 256)))
-    ready-off =
+  module _ (k a g : ℕ) (f : ℕ → ℕ) (r : Scanning a (suc k) g f) where
+    scanning-off : Scanning (suc a) k g (upd f g (next (a % 256)))
+    scanning-off =
         let away : Off g (suc a) k = off-later g a k (r .away) in
         record { room = omega (arith, r .room); here = upd-same f g _ ∙ next-mod a; away = away; fresh = fresh-later a k g _ f away (r .fresh) }
 
@@ -97,8 +97,8 @@ module _ (on : ℕ → Bool) where
       frame = λ y n w. s .frame y n (off-later y a k w) ∙ upd-other f g _ y n;
     }
 
-    ready-on : Ready (suc a) k (a % 256) (upd f (a % 256) (next (a % 256)))
-    ready-on =
+    scanning-on : Scanning (suc a) k (a % 256) (upd f (a % 256) (next (a % 256)))
+    scanning-on =
         let away : Off (a % 256) (suc a) k = off-first a k (omega (arith, r .room)) in
         record { room = omega (arith, r .room); here = upd-same f (a % 256) _ ∙ next-mod a; away = away; fresh = fresh-later a k _ _ f away (r .fresh) }
 
@@ -117,10 +117,10 @@ module _ (on : ℕ → Bool) where
           frame = λ y n w. frame y w;
         }
 
-  pub scan : (k a g : ℕ) (f : ℕ → ℕ) → Ready a k g f → Scanned a k g f
+  pub scan : (k a g : ℕ) (f : ℕ → ℕ) → Scanning a k g f → Scanned a k g f
   unfolding calls script
   scan zero a g f r = record { nid = f; runs = stop; linked = (omega (arith, r .here), tt); frame = λ y h o. refl }
-  scan (suc k) a g f r = case (on (a % 256)) refl (scan k (suc a) g _ (ready-off k a g f r)) (scan k (suc a) _ _ (ready-on k a g f r))
+  scan (suc k) a g f r = case (on (a % 256)) refl (scan k (suc a) g _ (scanning-off k a g f r)) (scan k (suc a) _ _ (scanning-on k a g f r))
     where
       case : (b : Bool) → on (a % 256) ≡ b → Scanned (suc a) k g (upd f g (next (a % 256)))
           → Scanned (suc a) k (a % 256) (upd f (a % 256) (next (a % 256))) → Scanned a (suc k) g f

@@ -9,7 +9,7 @@ use native.Mathlib.Omega.{arith}
 use lib.Dec.{eqb, leb, ltb, lit<}
 use lib.ListN.{length, getD}
 use borrow.Author.Tests.{eqb-true, eq-eqb, ne-eqb, ltb-true, ltb-false, lt-ltb, leb-true, le-leb, not-true}
-use Rattle.card.proofs.Bools.{cases, and-five, holds}
+use Rattle.card.proofs.Words.Bools.{cases, and-five, holds}
 use Rattle.table.specs.Network.{rowLimit}
 use Rattle.table.proofs.Folds.{clash, every-at, every-of, some-fails, some-not}
 use Rattle.desk.specs.Order.{recordBytes, records, recordAt, mark, idOf, flagsOf, nameOf, printables, recordFits, recordsFit, idAt, idsDiffer, orderFits}

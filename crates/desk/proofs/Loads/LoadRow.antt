@@ -9,8 +9,8 @@ use Rattle.card.specs.declared.regs.Regs.{Regs}
 use Rattle.card.specs.Words.{pick, has}
 use Rattle.card.specs.Registers.{hardwareReset}
 use Rattle.card.specs.Events.{burst}
-use Rattle.card.proofs.Kept.{on-line-same, reset-off, kept-burst}
-use Rattle.card.proofs.Loads.{prepared, named, sized, opened, joined, Loads, loads}
+use Rattle.card.proofs.Registers.SameCard.{on-line-same, reset-off, same-burst}
+use Rattle.card.proofs.Registers.Loads.{prepared, named, sized, opened, joined, Loads, loads}
 use Rattle.table.specs.Network.{rows, phase, LOST, regsAt, onLineAt, isNode, shape}
 use Rattle.table.specs.Calls.{netWriteNumber, netAfterWrite}
 use Rattle.table.proofs.Online.Nodes.{online-is}
@@ -80,6 +80,6 @@ module _ (net : List ℕ) (s : shape net ≡ true) (p : phase net ≡ LOST) (k :
   pub row-on : (onLineAt (loadedRow net k i flags) k ≡ true) × (regsAt (loadedRow net k i flags) k .id ≡ i)
   row-on =
       let g = joined i (has LONG flags) (has RECEIVE flags) in
-      let b = kept-burst g in
+      let b = same-burst g in
       let r = row-loaded .regs in
       (sym (online-is (loadedRow net k i flags) k (burst g) true (sym r) (sym (on-line-same g (burst g) (b .id) (b .configuration) ∙ f .on))), ap (λ (x : Regs). x .id) r ∙ b .id ∙ f .id)

@@ -13,7 +13,7 @@ use Rattle.card.specs.Words.{pick, has}
 use Rattle.table.specs.Network.{rows, shape}
 use Rattle.table.specs.Calls.{netAfterWrite, freshNumber, netAfterFresh, freshNet}
 use Rattle.table.proofs.Access.Fresh.{fresh-refused, fresh-room, fresh-net, header-fresh}
-use Rattle.table.proofs.Access.CallsKeep.{write-keeps, fresh-keeps}
+use Rattle.table.proofs.Access.ShapeCalls.{shape-write, shape-fresh}
 use Rattle.table.proofs.Access.Beside.{beside-count, write-beside}
 use Rattle.desk.specs.Numbers.{ORDER}
 use Rattle.desk.specs.Order.{records, recordAt, idAt, flagsOf, RECEIVE, LONG, orderFits}
@@ -22,12 +22,12 @@ use Rattle.desk.proofs.Forms.OrderLaws.{order-records}
 use Rattle.desk.proofs.Loads.Loaded.{load-order, load-room}
 
 -- `new` may be written where `net` may
-pub record Ready (net new : List ℕ) : Type 0 where
+pub record Writable (net new : List ℕ) : Type 0 where
   pub shaped : shape new ≡ true
   pub count : rows new ≡ rows net
   pub long : length new ≡ length net
 
-pub at-place : (net : List ℕ) (k : ℕ) → k < rows net → (x y : List ℕ) → x ≡ y → Ready net y → (shape x ≡ true) × (k < rows x)
+pub at-place : (net : List ℕ) (k : ℕ) → k < rows net → (x y : List ℕ) → x ≡ y → Writable net y → (shape x ≡ true) × (k < rows x)
 at-place net k l x y e h = rw e (h .shaped, omega (arith, h .count))
 
 -- ---- a row
@@ -40,31 +40,31 @@ module _ (f flags : ℕ) (x y new : List ℕ) where
   is-skipped z e = e ∙ rw (eq-eqb (bitAnd flags f) 0 z)
 
 module _ (net : List ℕ) (k : ℕ) (p : (shape net ≡ true) × (k < rows net)) where
-  ready-write : (a : List ℕ) → Ready net a → (r v : ℕ) → Ready net (netAfterWrite a k r v)
-  ready-write a h r v =
+  writable-write : (a : List ℕ) → Writable net a → (r v : ℕ) → Writable net (netAfterWrite a k r v)
+  writable-write a h r v =
       let b = write-beside a (h .shaped) k (omega (arith, h .count, p .1)) r v in
-      record { shaped = write-keeps a (h .shaped) k r v; count = beside-count b ∙ h .count; long = b .long ∙ h .long }
+      record { shaped = shape-write a (h .shaped) k r v; count = beside-count b ∙ h .count; long = b .long ∙ h .long }
 
-  ready-pick : (b : Bool) (a : List ℕ) → Ready net a → (r v : ℕ) → Ready net (pick b (netAfterWrite a k r v) a)
-  ready-pick true a h r v = ready-write a h r v
-  ready-pick false a h r v = h
+  writable-pick : (b : Bool) (a : List ℕ) → Writable net a → (r v : ℕ) → Writable net (pick b (netAfterWrite a k r v) a)
+  writable-pick true a h r v = writable-write a h r v
+  writable-pick false a h r v = h
 
-  pub ready-19 : Ready net (set19 net k)
-  ready-19 = ready-write net (record { shaped = p .0; count = refl; long = refl }) 6 0x19
+  pub writable-19 : Writable net (set19 net k)
+  writable-19 = writable-write net (record { shaped = p .0; count = refl; long = refl }) 6 0x19
 
   module _ (i flags : ℕ) where
-    pub ready-id : Ready net (setId (set19 net k) k i)
-    ready-id = ready-write _ ready-19 7 i
+    pub writable-id : Writable net (setId (set19 net k) k i)
+    writable-id = writable-write _ writable-19 7 i
 
-    pub ready-long : Ready net (setLong (setId (set19 net k) k i) k flags)
-    ready-long = ready-pick (has LONG flags) _ ready-id 1 0x0d
+    pub writable-long : Writable net (setLong (setId (set19 net k) k i) k flags)
+    writable-long = writable-pick (has LONG flags) _ writable-id 1 0x0d
 
-    pub ready-receive : Ready net (setReceive (setLong (setId (set19 net k) k i) k flags) k flags)
-    ready-receive = ready-pick (has RECEIVE flags) _ ready-long 1 0x84
+    pub writable-receive : Writable net (setReceive (setLong (setId (set19 net k) k i) k flags) k flags)
+    writable-receive = writable-pick (has RECEIVE flags) _ writable-long 1 0x84
 
-    pub ready-row : Ready net (loadedRow net k i flags)
+    pub writable-row : Writable net (loadedRow net k i flags)
     unfolding loadedRow
-    ready-row = ready-write _ ready-receive 6 0x38
+    writable-row = writable-write _ writable-receive 6 0x38
 
 -- ---- the rows, one after another
 module _ (order net : List ℕ) where
@@ -77,12 +77,12 @@ module _ (order net : List ℕ) where
   unfolding loadedRows
   rows-more k x e i p flags q y a = a ∙ rw (e, p, q, add-one)
 
-  pub ready-rows : shape net ≡ true → (k : ℕ) → k ≤ rows net → Ready net (loadedRows order net k)
+  pub writable-rows : shape net ≡ true → (k : ℕ) → k ≤ rows net → Writable net (loadedRows order net k)
   unfolding loadedRows
-  ready-rows s zero l = record { shaped = s; count = refl; long = refl }
-  ready-rows s (suc k) l =
-      let h = ready-rows s k (omega arith) in
-      let r = ready-row (loadedRows order net k) k (h .shaped, omega (arith, h .count)) (idAt order k) (flagsOf (recordAt order k)) in
+  writable-rows s zero l = record { shaped = s; count = refl; long = refl }
+  writable-rows s (suc k) l =
+      let h = writable-rows s k (omega arith) in
+      let r = writable-row (loadedRows order net k) k (h .shaped, omega (arith, h .count)) (idAt order k) (flagsOf (recordAt order k)) in
       record { shaped = r .shaped; count = r .count ∙ h .count; long = r .long ∙ h .long }
 
 -- ---- the call
@@ -113,7 +113,7 @@ module _ (order net : List ℕ) (f : Bool) (e : f ≡ orderFits order) where
           let b = order-records order fits in
           let w : rows x ≡ n = rw made (header-fresh n .0) in
           at-place x k (omega arith) y (loadedRows order x k) a
-          (ready-rows order x (rw made (fresh-keeps n (omega arith) (omega arith))) k (omega arith))
+          (writable-rows order x (rw made (shape-fresh n (omega arith) (omega arith))) k (omega arith))
 
       pub is-loaded : (k : ℕ) → k ≡ n → (y : List ℕ) → y ≡ loadedRows order x k → (0 ≡ loadNumber order net) × (y ≡ netAfterLoad order net)
       unfolding netAfterLoad

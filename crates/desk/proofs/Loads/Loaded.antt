@@ -13,18 +13,18 @@ use borrow.Author.Tests.{ne-eqb, ltb-true, ltb-false}
 use Rattle.card.specs.Row.{regsOf}
 use Rattle.card.specs.Registers.{hardwareReset}
 use Rattle.card.specs.Numbers.{DONE, told}
-use Rattle.card.proofs.Order.{refuse-held, refuse-passed, refuse-stays}
+use Rattle.card.proofs.Told.Smallest.{refuse-held, refuse-passed, refuse-stays}
 use Rattle.table.specs.Numbers.{ROOM}
 use Rattle.card.specs.Access.{freshRow}
-use Rattle.card.proofs.Bools.{cases}
-use Rattle.card.proofs.Stays.{fresh-off}
-use Rattle.card.proofs.Loads.{regs-fresh}
+use Rattle.card.proofs.Words.Bools.{cases}
+use Rattle.card.proofs.Rows.WellFormed.{fresh-off}
+use Rattle.card.proofs.Registers.Loads.{regs-fresh}
 use Rattle.table.specs.Network.{rows, phase, LOST, rowAt, regsAt, onLineAt, isNode, shape, rowStart}
 use Rattle.table.specs.Calls.{netAfterFresh, freshNet}
 use Rattle.table.proofs.Folds.{clash}
 use Rattle.table.proofs.Online.Nodes.{online-is, node-online, node-id, online-same}
 use Rattle.table.proofs.Access.Fresh.{fresh-room, fresh-net, header-fresh, rowAt-fresh}
-use Rattle.table.proofs.Access.CallsKeep.{fresh-keeps}
+use Rattle.table.proofs.Access.ShapeCalls.{shape-fresh}
 use Rattle.desk.specs.Numbers.{ORDER}
 use Rattle.desk.specs.Order.{records, recordAt, idAt, flagsOf, orderFits}
 use Rattle.desk.specs.Load.{loadedRow, loadedRows, roomRefusals, loadRefusals, loadNumber, netAfterLoad}
@@ -51,7 +51,7 @@ module _ (order : List ℕ) (o : orderFits order ≡ true) where
       let n = records order in
       let h = header-fresh n in
       let r = order-records order o in record {
-        shaped = fresh-keeps n (r .0) (r .1);
+        shaped = shape-fresh n (r .0) (r .1);
         lost = h .1;
         count = h .0;
         done = λ j l. absurd (not-suc-le-zero l);

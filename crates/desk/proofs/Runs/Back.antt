@@ -8,16 +8,16 @@ use Prim.Native.Nat.{ℕ, zero, suc, _+_, _*_, _<_, _≤_}
 use native.Mathlib.Omega.{arith}
 use lib.ListN.{length}
 use borrow.Author.Tests.{eq-eqb}
-use Rattle.card.proofs.Bools.{cases}
+use Rattle.card.proofs.Words.Bools.{cases}
 use Rattle.table.specs.Network.{rows, phase, holder, LOST, TAKEN, regsAt, isNode, topId, shape}
 use Rattle.line.specs.Step.{step, highest, answerValue}
 use Rattle.table.proofs.Folds.{seek-is, some-not}
-use Rattle.table.proofs.Shaped.Shapes.{Held as IsHeld, shape-ids}
+use Rattle.table.proofs.Shaped.Shapes.{OnLineRow as IsHeld, shape-ids}
 use Rattle.table.proofs.Online.Nodes.{node-online, node-id, nodeOf-found, online-id}
 use Rattle.line.proofs.Steps.Holders.{highest-held}
 use Rattle.desk.specs.Lap.{nodes, after, answers, passed, firstHolder, back, lapSteps}
 use Rattle.line.proofs.Steps.View.{Rams, AfterLost, lost-step}
-use Rattle.desk.proofs.ById.Ring.{Call, Took, Spoke, roster}
+use Rattle.desk.proofs.ById.Ring.{Telling, Took, Spoke, roster}
 use Rattle.desk.proofs.Runs.Count.{Ids, some-online, roster-online, top-above}
 use Rattle.desk.proofs.ById.FirstLap.{other, before, Lap, lap, never-before, lap-counts}
 use Rattle.desk.proofs.Runs.Steps.{after-none, after-first, after-more, answers-first, answers-more, seen}
@@ -84,7 +84,7 @@ module _ (net : List ℕ) (s : shape net ≡ true) (b : Rams net) (lost : phase 
   abbrev first : List ℕ
   first = step net 0 .after
 
-  abbrev pub way : List Call
+  abbrev pub way : List Telling
   way = before (on net s) h small live top many (λ y. y) (λ y o. refl)
 
   abbrev pub ring : Lap (on net s) h small live top many (λ y. y) (λ y o. refl)

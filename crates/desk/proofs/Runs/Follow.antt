@@ -9,13 +9,13 @@ use native.Mathlib.Omega.{arith}
 use lib.Dec.{eqb, ltb}
 use lib.ListN.{length}
 use borrow.Author.Tests.{eqb-true, eqb-false, ltb-true, ltb-false}
-use Rattle.card.proofs.Bools.{cases}
+use Rattle.card.proofs.Words.Bools.{cases}
 use Rattle.table.specs.Network.{rows, phase, holder, regsAt, onLineAt, shape}
 use Rattle.line.specs.Step.{step, invited, taker, answerValue}
 use Rattle.table.proofs.Shaped.Shapes.{shape-ids}
 use Rattle.desk.specs.Lap.{after, answers, passed}
 use Rattle.line.proofs.Steps.View.{Alike, taker-step, AfterNone, none-step, held-step}
-use Rattle.desk.proofs.ById.Ring.{Call, Took, Missed, Spoke, Ring, next, upd, turn, Runs, stop, go}
+use Rattle.desk.proofs.ById.Ring.{Telling, Took, Missed, Spoke, Ring, next, upd, turn, Runs, stop, go}
 use Rattle.desk.proofs.ById.Scan.{upd-same, upd-other}
 use Rattle.desk.proofs.Runs.Steps.{after-none, after-first, answers-none, answers-first, seen}
 use Rattle.table.proofs.Access.Calm.{alike-nodes, same-nodes-then}
@@ -23,7 +23,7 @@ use Rattle.desk.proofs.Runs.Shows.{on, phaseOf, Shows, invites, took-ro
 
 module _ (net : List ℕ) (s : shape net ≡ true) where
   -- ---- one step: what it tells, and what the network after it shows
-  pub record Followed (now : List ℕ) (c : Call × Ring) : Type 0 where
+  pub record Followed (now : List ℕ) (c : Telling × Ring) : Type 0 where
     pub told : seen net (step now 0 .answer) ≡ c .0
     pub shows : Shows net s (step now 0 .after) (c .1)
     pub passed-to : passed (step now 0 .answer) ≡ true → answerValue (step now 0 .answer) ≡ holder (step now 0 .after)
@@ -97,11 +97,11 @@ module _ (net : List ℕ) (s : shape net ≡ true) where
   follow now g f false w = passes now g f w
 
   -- ---- a run
-  pub record Run (now : List ℕ) (l : List Call) (r : Ring) : Type 0 where
+  pub record Run (now : List ℕ) (l : List Telling) (r : Ring) : Type 0 where
     pub told : map (seen net) (answers (length l) now) ≡ l
     pub shows : Shows net s (after (length l) now) r
 
-  pub runs : {r t : Ring} {l : List Call} → Runs (on net s) r l t → (now : List ℕ) → Shows net s now r → Run now l t
+  pub runs : {r t : Ring} {l : List Telling} → Runs (on net s) r l t → (now : List ℕ) → Shows net s now r → Run now l t
   runs stop now w = record { told = rw answers-none; shows = rw after-none w }
   runs (go {r = r} {a = a} {l = l} e p) now w =
       let d = rw e at (follow now (r .holder) (r .nid) (r .taken) w) in

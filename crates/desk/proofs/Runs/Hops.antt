@@ -13,11 +13,11 @@ use Rattle.line.specs.declared.step.Answer.the-variants.{Refused, Quiet, Recove
 use Rattle.table.specs.Network.{regsAt}
 use Rattle.desk.specs.declared.laps.Taker.{Taker}
 use Rattle.desk.specs.Lap.{takers}
-use Rattle.desk.proofs.ById.Ring.{Call, Took, Missed, Spoke, calls, script}
+use Rattle.desk.proofs.ById.Ring.{Telling, Took, Missed, Spoke, calls, script}
 use Rattle.desk.proofs.Runs.Steps.{seen}
 
 -- each ID that takes the token, with the invitations since the holder before, c of them sent already
-abbrev pub hops : ℕ → List Call → List (ℕ × ℕ)
+abbrev pub hops : ℕ → List Telling → List (ℕ × ℕ)
 hops c [] = []
 hops c (Took x ∷ l) = (x, suc c) ∷ hops 0 l
 hops c (Missed x ∷ l) = hops (suc c) l

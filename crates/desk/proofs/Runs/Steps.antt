@@ -5,14 +5,14 @@ use mathlib.Core.Bool.{Bool, true, false}
 use mathlib.Core.List.{List, [], _∷_, _++_, map}
 use Prim.Native.Nat.{ℕ, zero, suc, _+_}
 use Rattle.card.specs.Words.{pick}
-use Rattle.card.proofs.Bools.{pick-of}
+use Rattle.card.proofs.Words.Bools.{pick-of}
 use Rattle.line.specs.declared.step.Answer.{Answer}
 use Rattle.line.specs.declared.step.Answer.the-variants.{Refused, Quiet, Recovered, Passed, Unanswered, TokenLost, Held}
 use Rattle.table.specs.Network.{regsAt}
 use Rattle.line.specs.Step.{step, answerValue}
 use Rattle.desk.specs.declared.laps.Taker.{Taker}
 use Rattle.desk.specs.Lap.{after, answers, invitation, passed, invitations, entry, takers}
-use Rattle.desk.proofs.ById.Ring.{Call, Took, Missed, Spoke}
+use Rattle.desk.proofs.ById.Ring.{Telling, Took, Missed, Spoke}
 use Rattle.desk.proofs.ById.Roster.{takes, invites}
 
 -- ---- one step more
@@ -95,7 +95,7 @@ module _ (net : List ℕ) where
 
 -- ---- the answers as the ring tells them
 module _ (net : List ℕ) where
-  abbrev pub seen : Answer → Call
+  abbrev pub seen : Answer → Telling
   seen (Refused n) = Spoke
   seen Quiet = Spoke
   seen (Recovered r) = Spoke

@@ -9,26 +9,26 @@ use native.Mathlib.Omega.{arith}
 use lib.Dec.{eqb}
 use lib.ListN.{length}
 use borrow.Author.Tests.{eq-eqb, eqb-true}
-use Rattle.card.proofs.Bools.{cases}
+use Rattle.card.proofs.Words.Bools.{cases}
 use Rattle.line.specs.declared.step.Answer.{Answer}
 use Rattle.line.specs.declared.step.Answer.the-variants.{Refused, Quiet, Recovered, Passed, Unanswered, TokenLost, Held}
 use Rattle.table.specs.Network.{regsAt}
 use Rattle.line.specs.Step.{step, answerValue}
 use Rattle.table.proofs.Folds.{clash}
 use Rattle.desk.specs.Lap.{after, answers, passed}
-use Rattle.desk.proofs.ById.Ring.{Call, Spoke}
+use Rattle.desk.proofs.ById.Ring.{Telling, Spoke}
 use Rattle.desk.proofs.ById.FirstLap.{other, Never}
 use Rattle.desk.proofs.Runs.Steps.{after-none, after-first, answers-first, seen}
 
-abbrev head : List Call → Call
+abbrev head : List Telling → Telling
 head [] = Spoke
 head (c ∷ l) = c
 
-abbrev tail : List Call → List Call
+abbrev tail : List Telling → List Telling
 tail [] = []
 tail (c ∷ l) = l
 
-pub never-at : (net : List ℕ) (h : ℕ) (l : List Call) (now : List ℕ) → Never h l → map (seen net) (answers (length l) now) ≡ l
+pub never-at : (net : List ℕ) (h : ℕ) (l : List Telling) (now : List ℕ) → Never h l → map (seen net) (answers (length l) now) ≡ l
     → (k : ℕ) → k < length l → other h (seen net (step (after k now) 0 .answer)) ≡ false
 never-at net h [] now n e k lt = absurd (omega arith)
 never-at net h (c ∷ l) now n e zero lt = rw (after-none, ap head (rw answers-first at e)) (n .0)

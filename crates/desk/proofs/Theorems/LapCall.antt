@@ -12,7 +12,7 @@ use Rattle.table.proofs.Access.Calm.{alike-nodes}
 use Rattle.desk.specs.Lap.{nodes, after, answers, lapSteps, lapNumber, lapped, netAfterLap, lapTakers}
 use Rattle.desk.specs.Demand.{Call, Step, Ready, table, steps, answersOf, Throughout, LapOf}
 use Rattle.desk.specs.Promises.{LapCallIsTheLap}
-use Rattle.desk.proofs.Call.LapNumber.{lap-shape, lap-lost, lap-two}
+use Rattle.desk.proofs.Lapping.LapNumber.{lap-shape, lap-lost, lap-two}
 use Rattle.desk.proofs.Runs.Back.{lap-steps}
 use Rattle.desk.proofs.Runs.LapCounts.{lap-entries}
 use Rattle.desk.proofs.Theorems.Demanded.{demand3}

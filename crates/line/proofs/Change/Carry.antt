@@ -11,10 +11,10 @@ use Rattle.card.specs.Words.{pick}
 use Rattle.card.specs.Row.{rowBytes, regsOf, putRegs, wellFormed}
 use Rattle.card.specs.Packets.{pageAt, pageBytes, stored}
 use Rattle.card.specs.Events.{received, receiving, takesBroadcasts, receivePage, storable}
-use Rattle.card.proofs.Bools.{and-left, and-right}
-use Rattle.card.proofs.Rows.{well-fit}
-use Rattle.card.proofs.Fits.{fit-rules}
-use Rattle.card.proofs.Traffic.{receive-room}
+use Rattle.card.proofs.Words.Bools.{and-left, and-right}
+use Rattle.card.proofs.Rows.Bytes.{well-fit}
+use Rattle.card.proofs.Registers.Fits.{fit-rules}
+use Rattle.card.proofs.Pages.Waiting.{receive-room}
 use Rattle.table.specs.Network.{rowAt, regsAt}
 use Rattle.line.specs.Traffic.{storedRow, carriedRow}
 

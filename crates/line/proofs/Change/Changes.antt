@@ -13,10 +13,10 @@ use Rattle.line.specs.declared.passes.Event.the-variants.{Recovery, Mess
 use Rattle.card.specs.Words.{pick}
 use Rattle.card.specs.Packets.{dataAt, stamped}
 use Rattle.card.specs.Events.{heard, risenNid, cancelled, sent, enquired, transmitting, receiving, transmitPage, storable}
-use Rattle.card.proofs.Rams.{Small}
+use Rattle.card.proofs.Rows.Rams.{Small}
 use Rattle.table.specs.Network.{phase, holder, LOST, PASS, TAKEN, turned, onRegs, regsAt}
 use Rattle.line.specs.Traffic.{onRow, happens, happened, takes, carriedRow, carried, stampedNet}
-use Rattle.table.proofs.Shaped.Shapes.{Held}
+use Rattle.table.proofs.Shaped.Shapes.{OnLineRow}
 
 -- ---- what a step does to the holder's own registers: an invitation was not answered; the token came; an enquiry was answered by a NAK or by nobody; the transmit
 -- ended, with an answer heard or not, acknowledged or not
@@ -138,7 +138,7 @@ sane start l (Carries to broadcast k) a = a .whole
 pub record Turns (start : List ℕ) (p t : ℕ) : Type 0 where
   pub small : p < 3
   pub nobody : p ≡ LOST → t ≡ 0
-  pub somebody : (p ≡ LOST → ⊥) → Held start t
+  pub somebody : (p ≡ LOST → ⊥) → OnLineRow start t
 
 -- ---- the network that changes of `start` lead to
 pub data Path (start : List ℕ) : List Change → List ℕ → Type 0 where

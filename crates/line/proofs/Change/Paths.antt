@@ -8,15 +8,15 @@ use native.Mathlib.Omega.{arith}
 use lib.ListN.{length}
 use Rattle.line.specs.declared.passes.Event.the-variants.{Recovery, Message, Taken}
 use Rattle.card.specs.Row.{rowBytes, regsOf, wellFormed}
-use Rattle.card.proofs.Bools.{and-left, and-right}
+use Rattle.card.proofs.Words.Bools.{and-left, and-right}
 use Rattle.table.specs.Network.{rows, phase, holder, TAKEN, rowAt, regsAt, shape, SameFrame}
 use Rattle.table.proofs.Rows.Networks.{length-turned, rowAt-turned, turned-other}
 use Rattle.table.proofs.Shaped.Shapes.{shape-row, shape-row-length}
-use Rattle.table.proofs.Shaped.ShapesKept.{shape-turned}
+use Rattle.table.proofs.Shaped.Kept.{shape-turned}
 use Rattle.table.proofs.Shaped.Alike.{Rams, Alike, alike-same, alike-then, alike-moved, alike-turned}
 use Rattle.line.proofs.Steps.Stepped.{held-row}
 use Rattle.line.proofs.Change.Changes.{Rises, Cancels, Enquires, Ends, Change, Reaches, Does, Stamps, Carries, rowDone, keepsNid, Allowed, sane, Path, begin, more, turn, keepNids}
-use Rattle.line.proofs.Change.ChangesKeep.{done-nid, Made, made, moved-done}
+use Rattle.line.proofs.Change.Made.{done-nid, Made, made, moved-done}
 
 module _ (start : List ℕ) (s : shape start ≡ true) (b : Rams start) where
   -- what a path leads to is well formed, with the same rows on line, each with its ID, and has RAMs of bytes

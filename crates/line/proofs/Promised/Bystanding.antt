@@ -17,12 +17,12 @@ use Rattle.card.specs.Row.{rowBytes, regsOf, putRegs, wellFormed}
 use Rattle.card.specs.Packets.{pageBytes, pageAt}
 use Rattle.card.specs.Events.{receiving, receivePage, storable}
 use Rattle.card.specs.Bystander.{Bystander, Storing}
-use Rattle.card.proofs.Bools.{and-left, and-right, pick-of, or-false}
-use Rattle.card.proofs.Rows.{regs-put, well-fit}
-use Rattle.card.proofs.Fits.{fit-rules}
-use Rattle.card.proofs.Pages.{length-stored}
-use Rattle.card.proofs.Traffic.{receive-room}
-use Rattle.card.proofs.Bystanders.{Reached, reached-same, reached-recovered, reached-heard, reached-answered, reached-risen, takes-same, storable-same, bystander-same, bystander-then, bystander-put, stores-after, stores-then, stores-stored}
+use Rattle.card.proofs.Words.Bools.{and-left, and-right, pick-of, or-false}
+use Rattle.card.proofs.Rows.Bytes.{regs-put, well-fit}
+use Rattle.card.proofs.Registers.Fits.{fit-rules}
+use Rattle.card.proofs.Pages.Stored.{length-stored}
+use Rattle.card.proofs.Pages.Waiting.{receive-room}
+use Rattle.card.proofs.Rows.Bystanders.{Listens, listens-same, listens-recovered, listens-heard, listens-answered, reached-risen, takes-same, storable-same, bystander-same, bystander-then, bystander-put, stores-after, stores-then, stores-stored}
 use Rattle.table.specs.Network.{rows, phase, holder, TAKEN, rowAt, regsAt, shape}
 use Rattle.line.specs.Traffic.{happens, storedRow, takes, carriedRow}
 use Rattle.line.specs.Step.{step}
@@ -40,7 +40,7 @@ abbrev Watches : Bool → List ℕ → List ℕ → Type 0
 Watches true r s = Storing r s
 Watches false r s = Bystander r s × (Receives s ≡ Receives r)
 
-watches-put : (b : Bool) (r s : List ℕ) → length s ≡ rowBytes → (g : Regs) → Reached (regsOf s) g → Watches b r s → Watches b r (putRegs s g)
+watches-put : (b : Bool) (r s : List ℕ) → length s ≡ rowBytes → (g : Regs) → Listens (regsOf s) g → Watches b r s → Watches b r (putRegs s g)
 watches-put b r s l g e =
     let m = bystander-put s g (omega arith) (e .but) in
     let i = ap receiving (regs-put s g (omega arith)) ∙ e .receives in
@@ -50,10 +50,10 @@ watches-put b r s l g e =
     on true m i w = stores-then r s _ w m i
     on false m i w = (bystander-then r s _ (w .0) m, i ∙ w .1)
 
-reaches : (e : Event) (k : ℕ) (g : Regs) → Reached g (happens e k g)
-reaches Recovery k g = reached-recovered g
-reaches (Message h token) k g = pick-of (Reached g) (eqb k h) (λ _. reached-same g) (λ _. reached-heard g token)
-reaches (Taken i t) k g = reached-answered g i (eqb k t)
+reaches : (e : Event) (k : ℕ) (g : Regs) → Listens g (happens e k g)
+reaches Recovery k g = listens-recovered g
+reaches (Message h token) k g = pick-of (Listens g) (eqb k h) (λ _. listens-same g) (λ _. listens-heard g token)
+reaches (Taken i t) k g = listens-answered g i (eqb k t)
 
 -- ---- a packet reaches the row s, which was r
 module _ (h to : ℕ) (broadcast : Bool) (k : Packet) (a : Whole k) (j : ℕ) (r s : List ℕ) (l : length s ≡ rowBytes) (w : wellFormed s ≡ true) where

@@ -19,21 +19,21 @@ use Rattle.line.specs.declared.step.Answer.the-variants.{Held}
 use Rattle.card.specs.Row.{rowBytes, regsOf}
 use Rattle.card.specs.Events.{cancelled, sent, transmitting, receiving, storable, takesBroadcasts}
 use Rattle.card.specs.Bystander.{Sends}
-use Rattle.card.proofs.Bools.{cases, and-left, and-right, pick-of}
-use Rattle.card.proofs.Rows.{regs-put, put-rest}
-use Rattle.card.proofs.Fits.{Fit}
-use Rattle.card.proofs.Traffic.{enquired-nak, enquired-unanswered}
-use Rattle.card.proofs.Stays.{regs-stamped}
-use Rattle.card.proofs.Bystanders.{stamped-other}
-use Rattle.card.proofs.Ends.{is-sent, heard-status, waits, idle, cancelled-tma}
-use Rattle.card.proofs.LineKeeps.{keep-cancelled}
+use Rattle.card.proofs.Words.Bools.{cases, and-left, and-right, pick-of}
+use Rattle.card.proofs.Rows.Bytes.{regs-put, put-rest}
+use Rattle.card.proofs.Registers.Fits.{Fit}
+use Rattle.card.proofs.Pages.Waiting.{enquired-nak, enquired-unanswered}
+use Rattle.card.proofs.StillBy.{regs-stamped}
+use Rattle.card.proofs.Rows.Bystanders.{stamped-other}
+use Rattle.card.proofs.Registers.Ends.{is-sent, heard-status, waits, idle, cancelled-tma}
+use Rattle.card.proofs.Registers.FitEvents.{fit-cancelled}
 use Rattle.table.specs.Network.{phase, holder, TAKEN, rowAt, onRegs, regsAt, shape}
 use Rattle.line.specs.Traffic.{happens, carriedRow}
 use Rattle.line.specs.Step.{step}
 use Rattle.line.specs.Outcomes.{outcomeTA, outcomeTMA, holderAfter, HolderLeft}
 use Rattle.table.proofs.Folds.{clash}
 use Rattle.table.proofs.Shaped.Alike.{Rams}
-use Rattle.line.proofs.Change.ChangesKeep.{row-fits}
+use Rattle.line.proofs.Change.Made.{row-fits}
 use Rattle.line.proofs.Steps.Stepped.{held-row}
 use Rattle.line.proofs.Change.Changes.{Change, Reaches, Does, Stamps, Carries, does, rowDone, Allowed, Comes, allDone}
 use Rattle.line.proofs.Change.Paths.{by-rows}
@@ -48,13 +48,13 @@ module _ (was g : Regs) where
 
 left-by : (g : Regs) → Fit g → (o : Outcome) → transmitting (cancelled g) ≡ tried o → HolderLeft g (holderAfter o g) o
 left-by g f Nothing e =
-    let d = idle (cancelled g) (keep-cancelled g f) e in
+    let d = idle (cancelled g) (fit-cancelled g f) e in
     record { registers = refl; ta = d .0; tma = cancelled-tma g; page = λ _. d .1 }
 left-by g f Malformed e = left-sent g _ false Malformed refl refl (λ b. refl)
 left-by g f Broadcast e = left-sent g _ false Broadcast refl refl (λ b. refl)
 left-by g f NoAnswer e = rw (enquired-unanswered (cancelled g)) (left-sent g _ false NoAnswer (sym (enquired-unanswered (cancelled g))) refl (λ b. refl))
 left-by g f Nak e =
-    let d = waits (cancelled g) (keep-cancelled g f) e in
+    let d = waits (cancelled g) (fit-cancelled g f) e in
     let i = heard-status (cancelled g) false in
     rw (enquired-nak (cancelled g)) (record { registers = sym (enquired-nak (cancelled g)); ta = rw i (d .0); tma = rw i (d .1); page = λ z. absurd (clash z refl) })
 left-by g f Delivered e = left-sent g _ true Delivered refl refl (λ b. refl)

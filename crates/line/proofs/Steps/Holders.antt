@@ -8,14 +8,14 @@ use Prim.Native.Nat.{ℕ, _<_}
 use native.Mathlib.Omega.{arith}
 use lib.Dec.{ltb}
 use borrow.Author.Tests.{ltb-true, ltb-false}
-use Rattle.card.proofs.Bools.{cases}
+use Rattle.card.proofs.Words.Bools.{cases}
 use Rattle.table.specs.Network.{rows, holder, topId}
 use Rattle.line.specs.Step.{highest, invited, taker}
 use Rattle.table.proofs.Online.Nodes.{node-online, nodeOf-found, nodeOf-most, nodeOf-fails, topId-nobody}
-use Rattle.table.proofs.Shaped.Shapes.{Held}
+use Rattle.table.proofs.Shaped.Shapes.{OnLineRow}
 
 -- the highest ID is an on-line row's
-pub highest-held : (net : List ℕ) → (topId net (rows net) ≡ 0 → ⊥) → Held net (highest net)
+pub highest-held : (net : List ℕ) → (topId net (rows net) ≡ 0 → ⊥) → OnLineRow net (highest net)
 highest-held net ne =
     let n = rows net in
     let top = topId net n in
@@ -27,5 +27,5 @@ highest-held net ne =
     (cases (ltb (highest net) n))
 
 -- the row that takes the invitation is on line
-pub taker-held : (net : List ℕ) → taker net < rows net → Held net (taker net)
+pub taker-held : (net : List ℕ) → taker net < rows net → OnLineRow net (taker net)
 taker-held net l = (l, node-online net (taker net) (invited net) (nodeOf-found net (invited net) (holder net) (rows net) l .0))

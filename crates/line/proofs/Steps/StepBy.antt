@@ -12,7 +12,7 @@ use Rattle.line.specs.declared.passes.Event.the-variants.{Recovery, Mess
 use Rattle.line.specs.declared.step.Answer.{Answer}
 use Rattle.line.specs.declared.step.Answer.the-variants.{Refused, Quiet, Recovered, Passed, Unanswered, TokenLost, Held}
 use Rattle.card.specs.Events.{risenNid}
-use Rattle.card.proofs.Bools.{pick-of}
+use Rattle.card.proofs.Words.Bools.{pick-of}
 use Rattle.table.specs.Network.{rows, phase, holder, LOST, PASS, TAKEN, topId, shape, SameFrame}
 use Rattle.line.specs.Traffic.{Turn}
 use Rattle.line.specs.Step.{destroyed, highest, lostTurn, invited, taker, passTurn, stepTurn, stepNumber, step}
@@ -39,7 +39,7 @@ Says net f (Held o) = SaysHeld net f o
 lost : (net : List ℕ) → Turns net LOST 0
 lost net = record { small = omega arith; nobody = λ _. refl; somebody = λ n. absurd (n refl) }
 
-holds : (net : List ℕ) (p t : ℕ) → 0 < p → p < 3 → shapes.Held net t → Turns net p t
+holds : (net : List ℕ) (p t : ℕ) → 0 < p → p < 3 → shapes.OnLineRow net t → Turns net p t
 holds net p t low small d = record { small = small; nobody = λ e. absurd (omega (arith, e)); somebody = λ _. d }
 
 module _ (net : List ℕ) (s : shape net ≡ true) (b : Rams net) (fault : ℕ) where

@@ -11,11 +11,11 @@ use Rattle.line.specs.declared.passes.Event.the-variants.{Recovery, Mess
 use Rattle.line.specs.declared.step.Answer.{Answer}
 use Rattle.line.specs.declared.step.Answer.the-variants.{Recovered, Passed, Unanswered}
 use Rattle.card.specs.Numbers.{DONE, VALUE}
-use Rattle.card.proofs.Order.{refuse-passed}
+use Rattle.card.proofs.Told.Smallest.{refuse-passed}
 use Rattle.table.specs.Numbers.{SHAPE}
 use Rattle.line.specs.Numbers.{HOLDER}
 use Rattle.card.specs.Events.{risenNid}
-use Rattle.card.proofs.Bools.{cases, pick-of}
+use Rattle.card.proofs.Words.Bools.{cases, pick-of}
 use Rattle.table.specs.Network.{rows, phase, holder, LOST, PASS, TAKEN, turned, topId, shape, onLineAt}
 use Rattle.line.specs.Traffic.{Turn, onRow, happened, takenTurn}
 use Rattle.line.specs.Step.{highest, lostTurn, invited, taker, passTurn, held, stepTurn, stepRefusals, stepNumber, step, answerValue}

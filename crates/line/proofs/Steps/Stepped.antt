@@ -13,8 +13,8 @@ use Rattle.line.specs.declared.step.Answer.{Answer}
 use Rattle.line.specs.declared.step.Answer.the-variants.{Refused}
 use Rattle.card.specs.Row.{onLine}
 use Rattle.card.specs.Numbers.{DONE, VALUE, refuse}
-use Rattle.card.proofs.Bools.{cases, pick-of}
-use Rattle.card.proofs.Order.{refuse-held, refuse-passed, refuse-stays, none-refuses}
+use Rattle.card.proofs.Words.Bools.{cases, pick-of}
+use Rattle.card.proofs.Told.Smallest.{refuse-held, refuse-passed, refuse-stays, none-refuses}
 use Rattle.table.specs.Numbers.{SHAPE}
 use Rattle.line.specs.Numbers.{HOLDER}
 use Rattle.table.specs.Network.{rows, phase, holder, LOST, PASS, regsAt, onLineAt, topId, shape}

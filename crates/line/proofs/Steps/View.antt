@@ -13,7 +13,7 @@ use Rattle.line.specs.declared.traffic.Outcome.{Outcome}
 use Rattle.line.specs.declared.step.Answer.{Answer}
 use Rattle.line.specs.declared.step.Answer.the-variants.{Recovered, Passed, Unanswered, Held}
 use Rattle.card.specs.Row.{onLine}
-use Rattle.card.proofs.Kept.{is-recovered, is-risen}
+use Rattle.card.proofs.Registers.SameCard.{is-recovered, is-risen}
 use Rattle.table.specs.Network.{headerBytes, rows, phase, holder, LOST, PASS, TAKEN, turned, regsAt, onLineAt, topId, shape}
 use Rattle.line.specs.Traffic.{Turn, happened, takenTurn}
 use Rattle.line.specs.Step.{highest, invited, taker, step}
@@ -22,7 +22,7 @@ use Rattle.table.proofs.Online.Nodes.{online-is}
 use Rattle.table.proofs.Shaped.Bounds.{bounds}
 use Rattle.line.proofs.Steps.Stepped.{held-row}
 use Rattle.line.proofs.Change.Changes.{Rises, Reaches, Does, Path, begin, more}
-use Rattle.line.proofs.Change.ChangesKeep.{made, own-here, own-there, shape-happened, happened-here}
+use Rattle.line.proofs.Change.Made.{made, own-here, own-there, shape-happened, happened-here}
 use Rattle.line.proofs.Change.Paths.{sound, same-nids, keep-taken}
 use Rattle.line.proofs.Steps.StepBy.{step-by, sound-step}
 use Rattle.line.proofs.Steps.StepIs.{lost-is, held-is, invitation, taker-is, none-is, passed-is}

@@ -20,7 +20,7 @@ use Rattle.table.proofs.Rows.Networks.{mid-row, put-row}
 use Rattle.table.proofs.Shaped.Shapes.{shape-within, shape-fits}
 use Rattle.table.proofs.Shaped.Bounds.{bounds}
 use Rattle.line.proofs.Change.Changes.{Stamps}
-use Rattle.line.proofs.Change.ChangesKeep.{shape-done, rows-done, shape-happened, rows-happened}
+use Rattle.line.proofs.Change.Made.{shape-done, rows-done, shape-happened, rows-happened}
 
 -- the event that reached each row
 pub is-happened : (net : List ℕ) (n : ℕ) → n ≡ rows net → (e : Event) (x : List ℕ) → x ≡ eachRow (λ k r. onRegs (happens e k) r) net n → x ≡ happened net e

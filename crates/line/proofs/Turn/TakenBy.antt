@@ -17,13 +17,13 @@ use Rattle.card.specs.Words.{pick}
 use Rattle.card.specs.Row.{regsOf}
 use Rattle.card.specs.Packets.{malformed, pageShape, destination, packetAt}
 use Rattle.card.specs.Events.{cancelled, transmitting, receiving, transmitPage, storable}
-use Rattle.card.proofs.Bools.{cases, and-false, or-false, pick-of}
-use Rattle.card.proofs.Traffic.{transmit-page-small}
-use Rattle.card.proofs.Ends.{page-of}
-use Rattle.card.proofs.Pages.{length-stamped}
-use Rattle.card.proofs.PacketLaws.{packet-full, packet-count}
-use Rattle.card.proofs.Rams.{packet-bytes}
-use Rattle.card.proofs.Bystanders.{stamped-shape}
+use Rattle.card.proofs.Words.Bools.{cases, and-false, or-false, pick-of}
+use Rattle.card.proofs.Pages.Waiting.{transmit-page-small}
+use Rattle.card.proofs.Registers.Ends.{page-of}
+use Rattle.card.proofs.Pages.Stored.{length-stamped}
+use Rattle.card.proofs.Pages.Packets.{packet-full, packet-count}
+use Rattle.card.proofs.Rows.Rams.{packet-bytes}
+use Rattle.card.proofs.Rows.Bystanders.{stamped-shape}
 use Rattle.table.specs.Network.{rows, phase, holder, TAKEN, rowAt, regsAt, nodeOf, shape}
 use Rattle.line.specs.Traffic.{Turn, onRow, happened, damaged, takes, stampedNet, wentOut, broadcastTurn, acknowledged, packetTurn, asked, enquiryTurn, tryTurn, takenTurn}
 use Rattle.line.specs.Step.{stepNumber}
@@ -34,7 +34,7 @@ use Rattle.table.proofs.Shaped.Shapes.{shape-within, shape-row-length}
 use Rattle.table.proofs.Shaped.Alike.{Rams, Alike}
 use Rattle.line.proofs.Steps.Stepped.{held-row}
 use Rattle.line.proofs.Change.Changes.{Own, Cancels, Enquires, Ends, does, Change, Reaches, Does, Stamps, Carries, Tries, Allowed, Path, begin, more, allDone, storedBy}
-use Rattle.line.proofs.Change.ChangesKeep.{own-here, own-there}
+use Rattle.line.proofs.Change.Made.{own-here, own-there}
 use Rattle.line.proofs.Change.Paths.{sound}
 
 -- the changes that lead from a network to what a turn leaves; what the turn's answer says of what they do to the holder's own registers; and who stored a packet
@@ -95,14 +95,14 @@ module _ (net : List ℕ) (s : shape net ≡ true) (b : Rams net) (fault : ℕ) 
   here : regsAt m h ≡ cancelled (regsAt net h)
   here = own-here net h s low Cancels
 
-  abbrev Held : Turn Outcome → Type 0
-  Held = By (SaysHeld net) net fault
+  abbrev ByTurn : Turn Outcome → Type 0
+  ByTurn = By (SaysHeld net) net fault
 
   abbrev Nobody : Type 0
   Nobody = (j : ℕ) → j < rows net → false ≡ stores net fault j
 
   -- no packet waits
-  nothing : transmitting (regsAt m h) ≡ false → Held (record { answer = Nothing; after = m })
+  nothing : transmitting (regsAt m h) ≡ false → ByTurn (record { answer = Nothing; after = m })
   unfolding stores
   nothing t = record { changes = _; path = cancels; says = (λ g. refl, ap transmitting (sym here) ∙ t); stored = λ j _. rw (z, p, t) }
 
@@ -113,10 +113,10 @@ module _ (net : List ℕ) (s : shape net ≡ true) (b : Rams net) (fault : ℕ) 
     -- at the end the transmit ends, or waits on
     ends : {x : List ℕ} {l : List Change} → Path net l x → ((g : Regs) → allDone l g ≡ cancelled g) → (o : Own) → Allowed net l (Does o) → (a : Outcome)
         → ((g : Regs) → does o (cancelled g) ≡ holderAfter a g) → tried a ≡ true
-        → ((j : ℕ) → j < rows net → storedBy h l j (regsAt net j) ≡ stores net fault j) → Held (record { answer = a; after = onRow x h (does o) })
+        → ((j : ℕ) → j < rows net → storedBy h l j (regsAt net j) ≡ stores net fault j) → ByTurn (record { answer = a; after = onRow x h (does o) })
     ends q w o ok a e u v = record { changes = _; path = more q (Does o) ok; says = (λ g. ap (does o) (w g) ∙ e g, tries .waits ∙ sym u); stored = v }
 
-    malformed-ends : malformed form ≡ true → Held (record { answer = Malformed; after = onRow m h (does (Ends false false)) })
+    malformed-ends : malformed form ≡ true → ByTurn (record { answer = Malformed; after = onRow m h (does (Ends false false)) })
     unfolding stores
     malformed-ends f = ends cancels (λ g. refl) (Ends false false) tries Malformed (λ g. refl) refl (λ j _. rw (z, p, t, f))
 
@@ -163,7 +163,7 @@ module _ (net : List ℕ) (s : shape net ≡ true) (b : Rams net) (fault : ℕ) 
       abbrev did : ℕ
       did = destination (rowAt m h) page
 
-      broadcast-ends : eqb did 0 ≡ true → Held (broadcastTurn m h page fault)
+      broadcast-ends : eqb did 0 ≡ true → ByTurn (broadcastTurn m h page fault)
       unfolding broadcastTurn stores
       broadcast-ends d =
           let w = went-out (rows m) true (λ e. omega (arith, now .count, low)) in
@@ -173,7 +173,7 @@ module _ (net : List ℕ) (s : shape net ≡ true) (b : Rams net) (fault : ℕ) 
         abbrev to : ℕ
         to = nodeOf m did h (rows m)
 
-        packet-ends : to < rows m → Held (packetTurn m h page fault to)
+        packet-ends : to < rows m → ByTurn (packetTurn m h page fault to)
         unfolding packetTurn stores
         packet-ends l =
             let a = acknowledged m h page fault to in
@@ -190,21 +190,21 @@ module _ (net : List ℕ) (s : shape net ≡ true) (b : Rams net) (fault : ℕ) 
             rw (z, p, t, f, d, or-false (eqb j to)) (⊎-elim (λ (e : eqb j to ≡ true). rw (e, deaf j lj (eqb-true j to e)) (sym (and-false (not (damaged fault)))))
             (λ (e : eqb j to ≡ false). rw e (sym (and-false (not (damaged fault))))) (cases (eqb j to)))
 
-        enquiry-ends : Held (enquiryTurn m h page fault to)
+        enquiry-ends : ByTurn (enquiryTurn m h page fault to)
         unfolding enquiryTurn asked
         enquiry-ends =
-            pick-of Held (ltb to (rows m))
+            pick-of ByTurn (ltb to (rows m))
             (λ l. let v = ltb-true to (rows m) l in
-            pick-of Held (receiving (regsAt m to)) (λ _. packet-ends v)
+            pick-of ByTurn (receiving (regsAt m to)) (λ _. packet-ends v)
             (λ e. ends asks (λ g. refl) (Enquires true) tries Nak (λ g. refl) refl (unstored (λ j lj i. ap (λ (r : List ℕ). receiving (regsOf r))
             (sym (own-there net h s low Cancels j lj (λ y. nodeOf-found m did h (rows m) v .1 (sym i ∙ y)))) ∙ ap (λ (k : ℕ). receiving (regsAt m k)) i ∙ e))))
             (λ l. ends asks (λ g. refl) (Enquires false) tries NoAnswer (λ g. refl) refl
             (unstored (λ j lj i. absurd (omega (arith, now .count, ltb-false to (rows m) l)))))
 
-    try-ends : Held (tryTurn m h page fault)
+    try-ends : ByTurn (tryTurn m h page fault)
     unfolding tryTurn
-    try-ends = pick-of Held (malformed form) malformed-ends (λ f. pick-of Held (eqb (did f) 0) (broadcast-ends f) (enquiry-ends f))
+    try-ends = pick-of ByTurn (malformed form) malformed-ends (λ f. pick-of ByTurn (eqb (did f) 0) (broadcast-ends f) (enquiry-ends f))
 
   pub taken-by : By (SaysHeld net) net fault (takenTurn net (holder net) fault)
   unfolding takenTurn
-  taken-by = pick-of Held (transmitting (regsAt m h)) try-ends nothing
+  taken-by = pick-of ByTurn (transmitting (regsAt m h)) try-ends nothing

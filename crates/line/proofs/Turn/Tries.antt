@@ -14,14 +14,14 @@ use Rattle.line.specs.declared.traffic.Outcome.the-variants.{Nothing, Ma
 use Rattle.card.specs.Row.{rowBytes, regsOf, putRegs}
 use Rattle.card.specs.Packets.{malformed, pageShape, destination}
 use Rattle.card.specs.Events.{cancelled, sent, transmitting, transmitPage}
-use Rattle.card.proofs.Rows.{length-put, regs-put}
-use Rattle.card.proofs.Traffic.{transmit-page-small}
+use Rattle.card.proofs.Rows.Bytes.{length-put, regs-put}
+use Rattle.card.proofs.Pages.Waiting.{transmit-page-small}
 use Rattle.table.specs.Network.{rows, rowAt, setRow, regsAt, nodeOf, shape}
 use Rattle.line.specs.Traffic.{onRow, broadcastTurn, enquiryTurn, tryTurn, takenTurn}
 use Rattle.table.proofs.Rows.Networks.{setRow-header, rowAt-setRow}
 use Rattle.table.proofs.Shaped.Shapes.{shape-within, shape-row-length}
 use Rattle.line.proofs.Change.Changes.{Cancels, Does}
-use Rattle.line.proofs.Change.ChangesKeep.{shape-done}
+use Rattle.line.proofs.Change.Made.{shape-done}
 use Rattle.line.proofs.Turn.Sends.{put-after}
 
 module _ (net : List ℕ) (h p fault : ℕ) (r : List ℕ) (er : r ≡ rowAt net h) (s : Shape) (es : s ≡ pageShape r p) (m : Bool) (em : m ≡ malformed s) where

@@ -19,7 +19,7 @@ use Rattle.line.specs.Traffic.{happens, happened, takenTurn}
 use Rattle.line.specs.Step.{lostTurn, passTurn, invited, taker, stepTurn}
 use Rattle.table.proofs.Online.Nodes.{nodeOf-most}
 use Rattle.table.proofs.Shaped.Shapes.{shape-rows}
-use Rattle.line.proofs.Change.ChangesKeep.{rows-happened}
+use Rattle.line.proofs.Change.Made.{rows-happened}
 use Rattle.line.proofs.Turn.Sends.{is-happened, put-after}
 
 -- a row that was looked for is a byte, found or not

@@ -11,9 +11,9 @@ use Rattle.card.specs.Row.{rowBytes}
 use Rattle.card.specs.Registers.{hardwareReset}
 use Rattle.card.specs.Access.{rowAfterRead, rowAfterWrite, rowAfterReset}
 use Rattle.card.specs.Events.{burst}
-use Rattle.card.proofs.Bools.{pick-of}
-use Rattle.card.proofs.Rows.{length-put}
-use Rattle.card.proofs.Stays.{length-read, length-write}
+use Rattle.card.proofs.Words.Bools.{pick-of}
+use Rattle.card.proofs.Rows.Bytes.{length-put}
+use Rattle.card.proofs.Rows.WellFormed.{length-read, length-write}
 use Rattle.table.specs.Network.{headerBytes, rowStart, rows, phase, LOST, turned, rowAt, setRow, onRegs, regsAt, onLineAt, shape}
 use Rattle.table.specs.Calls.{placeNumber, netReadNumber, netAfterRead, isHolder, settled, netWriteNumber, netAfterWrite, netAfterReset, timerNumber, netAfterTimer}
 use Rattle.table.proofs.Rows.Networks.{length-rowAt, length-setRow, setRow-header, rowAt-setRow-other, length-turned, rowAt-turned, turned-other, phase-turned}

@@ -13,25 +13,25 @@ use Rattle.card.specs.Row.{rowBytes, regsOf, onLine}
 use Rattle.card.specs.Registers.{hardwareReset}
 use Rattle.card.specs.Access.{rowAfterRead, rowAfterWrite, rowAfterReset}
 use Rattle.card.specs.Events.{burst}
-use Rattle.card.proofs.Bools.{and-left, pick-of}
-use Rattle.card.proofs.Rows.{length-put, regs-put}
-use Rattle.card.proofs.Kept.{on-line-same, kept-burst}
-use Rattle.card.proofs.Stays.{length-read, length-write}
-use Rattle.card.proofs.Rams.{ram-put}
-use Rattle.card.proofs.Touched.{reset-id, write-nid, write-id-byte, kept-row, ram-read, ram-write}
+use Rattle.card.proofs.Words.Bools.{and-left, pick-of}
+use Rattle.card.proofs.Rows.Bytes.{length-put, regs-put}
+use Rattle.card.proofs.Registers.SameCard.{on-line-same, same-burst}
+use Rattle.card.proofs.Rows.WellFormed.{length-read, length-write}
+use Rattle.card.proofs.Rows.Rams.{ram-put}
+use Rattle.card.proofs.Rows.Touched.{reset-id, write-nid, write-id-byte, same-row, ram-read, ram-write}
 use Rattle.table.specs.Network.{rowStart, rows, LOST, turned, rowAt, setRow, onRegs, regsAt, onLineAt, shape, SameNodes}
 use Rattle.table.specs.Calls.{placeNumber, netReadNumber, netAfterRead, isHolder, settled, netWriteNumber, netAfterWrite, netAfterReset}
 use Rattle.table.proofs.Folds.{clash}
 use Rattle.table.proofs.Rows.Networks.{length-rowAt, length-setRow, rowAt-setRow, rowAt-turned}
 use Rattle.table.proofs.Online.Nodes.{online-same}
 use Rattle.table.proofs.Shaped.Shapes.{shape-within, shape-row, shape-row-length}
-use Rattle.table.proofs.Shaped.ShapesKept.{became-put}
+use Rattle.table.proofs.Shaped.Kept.{became-put}
 use Rattle.table.proofs.Shaped.Became.{still-same}
 use Rattle.table.proofs.Shaped.Alike.{Rams}
 use Rattle.table.proofs.Access.Placed.{read-placed, write-placed, row-there}
-use Rattle.table.proofs.Shaped.RowsKeep.{kept-read, reset-off, regs-write}
-use Rattle.table.proofs.Access.CallsKeep.{write-keeps, reset-keeps}
-use Rattle.table.proofs.Online.SameNodes.{Quiet, calm-still, calm-quiet, quiet-same}
+use Rattle.table.proofs.Shaped.KeptRows.{kept-read, reset-off, regs-write}
+use Rattle.table.proofs.Access.ShapeCalls.{shape-write, shape-reset}
+use Rattle.table.proofs.Online.SameNodes.{CalmRow, calm-still, calm-rows, calm-row-same}
 pub use Rattle.table.proofs.Online.SameNodes.{same-nodes-then, alike-nodes, Calm, calm-same}
 
 -- ---- a row that is on line as it was before the call has nothing to settle
@@ -43,7 +43,7 @@ module _ (net : List ℕ) (k : ℕ) (h : rowStart k + rowBytes ≤ length net) w
       let g = regsAt net k in
       let r = onRegs burst (rowAt net k) in
       ap (λ (x : List ℕ). onLine (regsOf x)) (rowAt-turned (setRow net k r) LOST 0 k ∙ rowAt-setRow net k r h (length-put (rowAt net k) _ ∙ l))
-      ∙ ap onLine (regs-put (rowAt net k) (burst g) (omega arith)) ∙ on-line-same g (burst g) (kept-burst g .id) (kept-burst g .configuration)
+      ∙ ap onLine (regs-put (rowAt net k) (burst g) (omega arith)) ∙ on-line-same g (burst g) (same-burst g .id) (same-burst g .configuration)
 
   settled-none : (was : Bool) → onLineAt (settled net k was) k ≡ was → settled net k was ≡ net
   unfolding settled
@@ -54,13 +54,13 @@ module _ (net : List ℕ) (k : ℕ) (h : rowStart k + rowBytes ≤ length net) w
       (λ u o. absurd (clash (o ∙ and-left was (isHolder net k) u) (online-same net (turned net LOST 0) k (rowAt-turned net LOST 0 k) ∙ t))) (λ _ _. refl))
 
 module _ (net : List ℕ) (s : shape net ≡ true) (b : Rams net) (k : ℕ) where
-  module _ (l : k < rows net) (r : List ℕ) (e : length r ≡ rowBytes) (q : Quiet (rowAt net k) r) where
+  module _ (l : k < rows net) (r : List ℕ) (e : length r ≡ rowBytes) (q : CalmRow (rowAt net k) r) where
     calm-settled : shape (settled (setRow net k r) k (onLineAt net k)) ≡ true → SameNodes net (settled (setRow net k r) k (onLineAt net k))
         → Calm net (settled (setRow net k r) k (onLineAt net k))
     calm-settled f n =
         let h = shape-within net s k l in
         let same = settled-none (setRow net k r) k (omega (arith, length-setRow net k r h e)) (onLineAt net k) (n .online k l) in
-        calm-quiet b (rw same (became-put net k r s l e q (λ j _. quiet-same (rowAt net j)))) f n
+        calm-rows b (rw same (became-put net k r s l e q (λ j _. calm-row-same (rowAt net j)))) f n
 
   -- ---- the calls
   pub calm-read : (g : ℕ) → Calm net (netAfterRead net k g)
@@ -72,7 +72,7 @@ module _ (net : List ℕ) (s : shape net ≡ true) (b : Rams net) (k : ℕ) wher
       let w = shape-row-length net s k l in
       calm-still net s b (setRow net k (rowAfterRead r g))
       (became-put net k (rowAfterRead r g) s l (length-read r w g)
-      (record { moved = record { kept = kept-read r w g (shape-row net s k l); ram = λ _ m. ram-read r m g }; nid = kept-row r w g .nid })
+      (record { moved = record { kept = kept-read r w g (shape-row net s k l); ram = λ _ m. ram-read r m g }; nid = same-row r w g .nid })
       (λ j lj. still-same (rowAt net j) (shape-row net s j lj))))
       (λ _. calm-same net s b)
 
@@ -90,7 +90,7 @@ module _ (net : List ℕ) (s : shape net ≡ true) (b : Rams net) (k : ℕ) wher
         nid = λ _. ap (λ (x : Regs). x .nid) e ∙ write-nid (regsOf r) g v;
       }))
       (λ _ _ _. calm-same net s b)
-      (write-keeps net s k g v)
+      (shape-write net s k g v)
 
   pub calm-reset : SameNodes net (netAfterReset net k) → Calm net (netAfterReset net k)
   unfolding netAfterReset
@@ -105,4 +105,4 @@ module _ (net : List ℕ) (s : shape net ≡ true) (b : Rams net) (k : ℕ) wher
         nid = λ o. absurd (clash o (reset-off r w));
       }))
       (λ _ _ _. calm-same net s b)
-      (reset-keeps net s k)
+      (shape-reset net s k)

@@ -13,9 +13,9 @@ use borrow.Rule.Slice.PartMut.{midOf, putMid}
 use Rattle.card.specs.Numbers.{DONE, VALUE, refuse, refuses}
 use Rattle.card.specs.Row.{rowBytes}
 use Rattle.card.specs.Access.{freshRow}
-use Rattle.card.proofs.Bools.{or-right}
-use Rattle.card.proofs.Order.{refuse-held, refuse-passed, refuse-stays, none-refuses}
-use Rattle.card.proofs.Stays.{length-fresh}
+use Rattle.card.proofs.Words.Bools.{or-right}
+use Rattle.card.proofs.Told.Smallest.{refuse-held, refuse-passed, refuse-stays, none-refuses}
+use Rattle.card.proofs.Rows.WellFormed.{length-fresh}
 use Rattle.table.specs.Numbers.{ROOM}
 use Rattle.table.specs.Network.{headerBytes, mark, rowLimit, rowStart, rows, phase, LOST, rowAt, setRow, eachRow}
 use Rattle.table.specs.Calls.{freshRows, freshNet, freshRefusals, freshNumber, netAfterFresh}

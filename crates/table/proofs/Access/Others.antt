@@ -9,8 +9,8 @@ use native.Mathlib.Omega.{arith}
 use lib.Dec.{eqb, ltb}
 use lib.ListN.{getD}
 use borrow.Author.Tests.{eqb-true, ne-eqb, ltb-true, ltb-false}
-use Rattle.card.proofs.Bools.{cases, pick-of}
-use Rattle.card.proofs.Stays.{length-read}
+use Rattle.card.proofs.Words.Bools.{cases, pick-of}
+use Rattle.card.proofs.Rows.WellFormed.{length-read}
 use Rattle.table.specs.Network.{headerBytes, rows, rowAt, shape, OnlyRow}
 use Rattle.table.specs.Calls.{netReadNumber, netAfterRead, netAfterWrite, netAfterReset, netAfterTimer}
 use Rattle.table.proofs.Rows.Networks.{setRow-header}

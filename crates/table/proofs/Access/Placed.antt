@@ -17,7 +17,7 @@ use Rattle.card.specs.Refusals.{readRefusals}
 use Rattle.card.specs.Access.{valueRead, rowAfterRead}
 use Rattle.card.specs.Packets.{pageData}
 use Rattle.card.specs.Events.{burst}
-use Rattle.card.proofs.Order.{refuse-held, refuse-passed, refuse-stays, told-first, told-second, told-both, none-refuses}
+use Rattle.card.proofs.Told.Smallest.{refuse-held, refuse-passed, refuse-stays, told-first, told-second, told-both, none-refuses}
 use Rattle.table.specs.declared.calls.Reading.{Reading}
 use Rattle.table.specs.declared.calls.Interrupting.{Interrupting}
 use Rattle.table.specs.Numbers.{SHAPE, ROW}

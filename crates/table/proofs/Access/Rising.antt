@@ -5,8 +5,8 @@ use mathlib.Core.List.{List, [], _∷_}
 use Prim.Native.Nat.{ℕ}
 use Rattle.card.specs.Numbers.{Smallest, _when_}
 use Rattle.card.specs.Refusals.{writeRefusals}
-use Rattle.card.proofs.Order.{smallest}
-use Rattle.card.proofs.Rising.{rises-append, read-rises, write-rises, write-last, data-rises}
+use Rattle.card.proofs.Told.Smallest.{smallest}
+use Rattle.card.proofs.Told.Rising.{rises-append, read-rises, write-rises, write-last, data-rises}
 use Rattle.table.specs.Numbers.{DUPLICATE}
 use Rattle.table.specs.Network.{rowAt, regsAt}
 use Rattle.table.specs.Calls.{placeRefusals, placeNumber, netReadRefusals, netReadNumber, netReading, duplicate, netWriteRefusals, netWriteNumber, timerRefusals, timerNumber, netInterrupt, netDataRefusals, netDataNumber, freshRefusals, freshNumber}

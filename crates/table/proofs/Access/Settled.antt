@@ -13,8 +13,8 @@ use Rattle.card.specs.Registers.{afterWrite}
 use Rattle.card.specs.Refusals.{writeRefusals, writeNumber}
 use Rattle.card.specs.Access.{rowAfterWrite, rowAfterReset}
 use Rattle.card.specs.Events.{burst}
-use Rattle.card.proofs.Bools.{and-assoc}
-use Rattle.card.proofs.Order.{told-append}
+use Rattle.card.proofs.Words.Bools.{and-assoc}
+use Rattle.card.proofs.Told.Smallest.{told-append}
 use Rattle.table.specs.Numbers.{DUPLICATE}
 use Rattle.table.specs.Network.{rows, phase, holder, LOST, turned, regsAt, onLineAt, nodeOf, shape, rowAt, setRow}
 use Rattle.table.specs.Calls.{placeNumber, isHolder, settled, duplicate, rowWriteRefusals, netWriteNumber, netAfterWrite, netAfterReset}

@@ -10,15 +10,15 @@ use lib.Dec.{eqb}
 use lib.ListN.{length}
 use borrow.Author.Tests.{eqb-false, le-ltb}
 use Rattle.card.specs.declared.regs.Regs.{Regs}
-use Rattle.card.proofs.Order.{refuse-passed}
+use Rattle.card.proofs.Told.Smallest.{refuse-passed}
 use Rattle.card.specs.Row.{rowBytes, regsOf, onLine}
 use Rattle.card.specs.Registers.{afterWrite}
 use Rattle.card.specs.Refusals.{writeNumber}
 use Rattle.card.specs.Access.{rowAfterWrite}
 use Rattle.card.specs.Events.{burst}
-use Rattle.card.proofs.Bools.{cases, and-false}
-use Rattle.card.proofs.Rows.{regs-put, length-put}
-use Rattle.card.proofs.Stays.{length-write}
+use Rattle.card.proofs.Words.Bools.{cases, and-false}
+use Rattle.card.proofs.Rows.Bytes.{regs-put, length-put}
+use Rattle.card.proofs.Rows.WellFormed.{length-write}
 use Rattle.table.specs.Numbers.{DUPLICATE}
 use Rattle.table.specs.Network.{rowStart, rows, phase, LOST, rowAt, setRow, onRegs, regsAt, onLineAt, isNode, nodeOf, shape}
 use Rattle.table.specs.Calls.{settled, duplicate, netWriteNumber, netAfterWrite}
@@ -27,8 +27,8 @@ use Rattle.table.proofs.Rows.Networks.{length-rowAt, length-setRow, row
 use Rattle.table.proofs.Online.Nodes.{other, node-same}
 use Rattle.table.proofs.Shaped.Shapes.{shape-within, shape-row-length}
 use Rattle.table.proofs.Access.Settled.{write-asked}
-use Rattle.table.proofs.Shaped.RowsKeep.{regs-write}
-use Rattle.table.proofs.Access.CallsKeep.{write-keeps}
+use Rattle.table.proofs.Shaped.KeptRows.{regs-write}
+use Rattle.table.proofs.Access.ShapeCalls.{shape-write}
 use Rattle.table.proofs.Access.Beside.{beside-count, write-beside}
 
 -- ---- a row k that is off line, in LOST: what the network `new` has in its place, and that all else is the same
@@ -70,7 +70,7 @@ module _ (old net : List ℕ) (k : ℕ) (g : Regs) (w : Written old net k g) (l 
   written : (x : Regs) → regsAt new k ≡ x → Written old new k x
   written x e =
       let b = write-beside net (w .shaped) k low r v in record {
-        shaped = write-keeps net (w .shaped) k r v;
+        shaped = shape-write net (w .shaped) k r v;
         lost = b .lost (w .lost);
         count = beside-count b ∙ w .count;
         regs = e;

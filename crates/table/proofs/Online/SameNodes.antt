@@ -6,9 +6,9 @@ use mathlib.Core.List.{List}
 use Prim.Native.Nat.{ℕ, _<_}
 use native.Mathlib.Omega.{arith}
 use Rattle.card.specs.Row.{regsOf, onLine}
-use Rattle.card.proofs.PacketLaws.{Ram}
+use Rattle.card.proofs.Pages.Packets.{Ram}
 use Rattle.table.specs.Network.{rows, phase, holder, regsAt, onLineAt, shape, SameNodes}
-use Rattle.table.proofs.Shaped.ShapesKept.{Became}
+use Rattle.table.proofs.Shaped.Kept.{Became}
 use Rattle.table.proofs.Shaped.Became.{Still, became-rows, became-phase, became-holder, still-moved}
 use Rattle.table.proofs.Shaped.Alike.{Rams, Alike, alike-moved}
 
@@ -54,13 +54,13 @@ calm-still net s b new c =
     }
 
 -- ---- the row s in the place of the row r: with a RAM and an ID of bytes where r had them, and with r's NID if it is on line
-pub record Quiet (r s : List ℕ) : Type 0 where
+pub record CalmRow (r s : List ℕ) : Type 0 where
   pub bytes : Ram r × (regsOf r .id < 256) → Ram s × (regsOf s .id < 256)
   pub nid : onLine (regsOf s) ≡ true → regsOf s .nid ≡ regsOf r .nid
 
-pub calm-quiet : {net new : List ℕ} → Rams net → Became Quiet net new → shape new ≡ true → SameNodes net new → Calm net new
+pub calm-rows : {net new : List ℕ} → Rams net → Became CalmRow net new → shape new ≡ true → SameNodes net new → Calm net new
 unfolding onLineAt
-calm-quiet {net} {new} b c f n = record {
+calm-rows {net} {new} b c f n = record {
   fits = f;
   rams = λ k l. let j : k < rows net = omega (arith, became-rows c) in c .row k j .bytes (b k j);
   nodes = n;
@@ -69,5 +69,5 @@ calm-quiet {net} {new} b c f n = record {
   nid = λ k l o. c .row k l .nid (n .online k l ∙ o);
 }
 
-pub quiet-same : (r : List ℕ) → Quiet r r
-quiet-same r = record { bytes = λ b. b; nid = λ o. refl }
+pub calm-row-same : (r : List ℕ) → CalmRow r r
+calm-row-same r = record { bytes = λ b. b; nid = λ o. refl }

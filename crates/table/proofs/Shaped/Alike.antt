@@ -10,14 +10,14 @@ use lib.Dec.{ltb}
 use lib.ListN.{length, getD, List·getD-eq-default}
 use borrow.Author.Tests.{ltb-true, ltb-false}
 use Rattle.card.specs.Row.{rowBytes}
-use Rattle.card.proofs.Bools.{cases}
-use Rattle.card.proofs.PacketLaws.{Ram}
-use Rattle.card.proofs.Rams.{Small, id-byte}
+use Rattle.card.proofs.Words.Bools.{cases}
+use Rattle.card.proofs.Pages.Packets.{Ram}
+use Rattle.card.proofs.Rows.Rams.{Small, id-byte}
 use Rattle.table.specs.Network.{rowStart, rows, turned, rowAt, regsAt, onLineAt, shape}
 use Rattle.table.proofs.Rows.Networks.{length-rowAt, getD-rowAt, rowAt-turned, rows-turned}
 use Rattle.table.proofs.Online.Nodes.{online-same}
 use Rattle.table.proofs.Shaped.Shapes.{shape-within}
-use Rattle.table.proofs.Shaped.ShapesKept.{Became}
+use Rattle.table.proofs.Shaped.Kept.{Became}
 use Rattle.table.proofs.Shaped.Became.{Moved, became-rows, shape-moved, moved-online}
 
 -- ---- the bytes of a network are bytes, and so are those of a row

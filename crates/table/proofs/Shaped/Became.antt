@@ -7,9 +7,9 @@ use Prim.Native.Nat.{ℕ, _<_}
 use lib.Dec.{lit<}
 use Rattle.card.specs.declared.regs.Regs.{Regs}
 use Rattle.card.specs.Row.{regsOf, onLine, wellFormed}
-use Rattle.card.proofs.PacketLaws.{Ram}
+use Rattle.card.proofs.Pages.Packets.{Ram}
 use Rattle.table.specs.Network.{rows, phase, holder, rowAt, onLineAt, shape}
-use Rattle.table.proofs.Shaped.ShapesKept.{Kept, kept-same, Became, shape-became}
+use Rattle.table.proofs.Shaped.Kept.{Kept, kept-same, Became, shape-became}
 
 -- ---- a row: kept, and with a RAM of bytes where it had one and its ID is a byte; and with the NID that it had
 pub record Moved (r s : List ℕ) : Type 0 where

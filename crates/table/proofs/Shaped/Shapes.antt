@@ -10,7 +10,7 @@ use lib.Dec.{eqb, leb, ltb}
 use lib.ListN.{length, take, drop}
 use borrow.Author.Tests.{eqb-true, eqb-false, eq-eqb, ne-eqb, ltb-true, ltb-false, lt-ltb, le-leb, not-true}
 use Rattle.card.specs.Row.{rowBytes, zeros, wellFormed}
-use Rattle.card.proofs.Bools.{cases, and-left, and-right, and-five}
+use Rattle.card.proofs.Words.Bools.{cases, and-left, and-right, and-five}
 use Rattle.table.specs.Folds.{some}
 use Rattle.table.specs.Network.{headerBytes, rowLimit, rows, phase, holder, LOST, rowStart, rowAt, regsAt, onLineAt, isNode, headerFits, rowsFit, idsDiffer, holderFits, shape}
 use Rattle.table.proofs.Folds.{clash, every-at, every-of, some-fails, some-not}
@@ -54,10 +54,10 @@ ids-of net n d = every-of (free net) n each
     each k l = ⊎-elim (λ (q : onLineAt net k ≡ true). rw (q, some-not (isNode net (regsAt net k .id)) k (apart k l q))) (λ q. rw q) (cases (onLineAt net k))
 
 -- ---- the holder
-abbrev pub Held : List ℕ → ℕ → Type 0
-Held net h = (h < rows net) × (onLineAt net h ≡ true)
+abbrev pub OnLineRow : List ℕ → ℕ → Type 0
+OnLineRow net h = (h < rows net) × (onLineAt net h ≡ true)
 
-pub holder-of : (net : List ℕ) → (phase net ≡ LOST → holder net ≡ 0) → ((phase net ≡ LOST → ⊥) → Held net (holder net)) → holderFits net ≡ true
+pub holder-of : (net : List ℕ) → (phase net ≡ LOST → holder net ≡ 0) → ((phase net ≡ LOST → ⊥) → OnLineRow net (holder net)) → holderFits net ≡ true
 unfolding holderFits
 holder-of net a b =
     ⊎-elim (λ (t : eqb (phase net) LOST ≡ true). simp (t, eq-eqb _ _ (a (eqb-true _ _ t))))
@@ -107,7 +107,7 @@ module _ (net : List ℕ) (s : shape net ≡ true) where
   pub shape-ids : Differ net (rows net)
   shape-ids = ids-differ net (rows net) (tests .2)
 
-  pub shape-holder : (phase net ≡ LOST → ⊥) → Held net (holder net)
+  pub shape-holder : (phase net ≡ LOST → ⊥) → OnLineRow net (holder net)
   unfolding holderFits
   shape-holder ne =
       let t : (ltb (holder net) (rows net) && onLineAt net (holder net)) ≡ true = rw (ne-eqb _ _ ne) at (tests .3) in
@@ -119,7 +119,7 @@ module _ (net : List ℕ) (s : shape net ≡ true) where
 
 -- a network of these parts is well formed
 pub shape-of : (net : List ℕ) → headerFits net ≡ true → ((k : ℕ) → k < rows net → wellFormed (rowAt net k) ≡ true) → Differ net (rows net)
-    → (phase net ≡ LOST → holder net ≡ 0) → ((phase net ≡ LOST → ⊥) → Held net (holder net)) → shape net ≡ true
+    → (phase net ≡ LOST → holder net ≡ 0) → ((phase net ≡ LOST → ⊥) → OnLineRow net (holder net)) → shape net ≡ true
 unfolding shape rowsFit
 shape-of net h w d a b =
     let l = header-length net h in

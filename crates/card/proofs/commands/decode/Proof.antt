@@ -8,7 +8,7 @@ use native.Mathlib.Omega.{arith}
 use lib.ListN.{getD}
 use Rattle.card.specs.declared.commands.Legal.{Legal}
 use Rattle.card.specs.Commands.{commandOf, legalBytes}
-use Rattle.card.proofs.Legal.{unlisted, legal-at}
+use Rattle.card.proofs.Registers.Legal.{unlisted, legal-at}
 use Rattle.card.proofs.commands.decode.Statement.{statement}
 use Rattle.card.proofs.commands.decode.Tie as tie
 

@@ -2,8 +2,8 @@
 use borrow.Author.Needs.{needs}
 use mathlib.Core.Path.{refl}
 use native.Mathlib.Omega.{arith}
-use Rattle.card.proofs.Carried.{read-out}
-use Rattle.card.proofs.Sizes.{page-fits, page-most}
+use Rattle.card.proofs.Pages.Carried.{read-out}
+use Rattle.card.proofs.Pages.Sizes.{page-fits, page-most}
 use Rattle.card.proofs.packets.packet_at.Statement.{statement}
 use Rattle.card.proofs.packets.packet_at.Tie as tie
 

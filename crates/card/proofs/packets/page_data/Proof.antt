@@ -3,8 +3,8 @@ use borrow.Author.Needs.{needs}
 use native.Mathlib.Omega.{arith}
 use borrow.Author.Tests.{lt-ltb, le-ltb}
 use Rattle.card.specs.Packets.{pageData}
-use Rattle.card.proofs.Laid.{part-length}
-use Rattle.card.proofs.Sizes.{data-fits}
+use Rattle.card.proofs.Words.Laid.{part-length}
+use Rattle.card.proofs.Pages.Sizes.{data-fits}
 use Rattle.card.proofs.packets.page_data.Statement.{statement}
 use Rattle.card.proofs.packets.page_data.Tie as tie
 

@@ -1,8 +1,8 @@
 -- `card::packets::store_packet` meets its contract: head and data stay within the page, and the page within the row. Assumes nothing.
 use borrow.Author.Needs.{needs}
 use native.Mathlib.Omega.{arith}
-use Rattle.card.proofs.Carried.{stores}
-use Rattle.card.proofs.Sizes.{packet-known}
+use Rattle.card.proofs.Pages.Carried.{stores}
+use Rattle.card.proofs.Pages.Sizes.{packet-known}
 use Rattle.card.proofs.packets.store_packet.Statement.{statement}
 use Rattle.card.proofs.packets.store_packet.Tie as tie
 

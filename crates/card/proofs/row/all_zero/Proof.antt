@@ -5,7 +5,7 @@ use Prim.Native.Nat.{_≤_, _-_}
 use lib.ListN.{length, drop}
 use native.Mathlib.Omega.{arith}
 use Rattle.card.specs.Row.{zeros}
-use Rattle.card.proofs.Zeros.{zeros-here, zeros-not, zeros-end}
+use Rattle.card.proofs.Words.Zeros.{zeros-here, zeros-not, zeros-end}
 use borrow.Author.Needs.{needs}
 use Rattle.card.proofs.row.all_zero.Statement.{statement}
 use Rattle.card.proofs.row.all_zero.Tie as tie

@@ -3,7 +3,7 @@ use mathlib.Core.Path.{_∙_, ap}
 use lib.ListN.{length-set}
 use native.Mathlib.Omega.{arith}
 use Rattle.card.specs.Row.{putRegs}
-use Rattle.card.proofs.Zeros.{created}
+use Rattle.card.proofs.Words.Zeros.{created}
 use borrow.Author.Needs.{needs}
 use Rattle.card.proofs.row.create.Statement.{statement}
 use Rattle.card.proofs.row.create.Tie as tie

@@ -6,7 +6,7 @@ use Prim.Native.Nat.{ℕ, _≤_, _-_}
 use lib.ListN.{length, drop, set, replicate, length-set}
 use borrow.Author.Fill.{fill-none, fill-more}
 use native.Mathlib.Omega.{arith}
-use Rattle.card.proofs.Zeros.{filled}
+use Rattle.card.proofs.Words.Zeros.{filled}
 use borrow.Author.Needs.{needs}
 use Rattle.card.proofs.row.fill_zero.Statement.{statement}
 use Rattle.card.proofs.row.fill_zero.Tie as tie

@@ -1,5 +1,5 @@
 -- `card::row::read` meets its contract. Assumes nothing.
-use Rattle.card.proofs.Accesses.{read-done}
+use Rattle.card.proofs.Rows.Accesses.{read-done}
 use borrow.Author.Needs.{needs}
 use Rattle.card.proofs.row.read.Statement.{statement}
 use Rattle.card.proofs.row.read.Tie as tie

@@ -1,5 +1,5 @@
 -- `card::row::write` meets its contract. Assumes nothing.
-use Rattle.card.proofs.Accesses.{write-done}
+use Rattle.card.proofs.Rows.Accesses.{write-done}
 use borrow.Author.Needs.{needs}
 use Rattle.card.proofs.row.write.Statement.{statement}
 use Rattle.card.proofs.row.write.Tie as tie

@@ -52,8 +52,8 @@ use denote.Triple.Table.{entered}
 use denote.Triple.Walked.{says, needs, Stays, stay-slice, stay-dropped, walkOf, goes-slice, goes-dropped, Walks, ends-at, walked, walk-meets}
 use denote.Exit.{yes}
 use Rattle.desk.specs.declared.laps.Taker.{Taker}
-use Rattle.desk.proofs.Call.WalkSteps.{var, part, sets, tests, ends}
-use Rattle.desk.proofs.Call.TakerRows.{R, array, valsOf, machOf, typed, list-typed, apart, again as room-again, taken}
+use Rattle.desk.proofs.Lapping.WalkSteps.{var, part, sets, tests, ends}
+use Rattle.desk.proofs.Lapping.TakerRows.{R, array, valsOf, machOf, typed, list-typed, apart, again as room-again, taken}
 use Rattle.desk.proofs.laps.Taker as Row
 use Rattle.desk.proofs.laps.Taker.Laws as T′
 use Rattle.desk.proofs.laps.fill.Key.{name as #fill}

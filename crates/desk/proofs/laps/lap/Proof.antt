@@ -43,8 +43,8 @@ use denote.Triple.Walked.{says, Stays, gave-slice, walkOf, goes-gave-slice, Walk
 use Rattle.desk.specs.Lap.{lapTakers, lapped, listAfterLap, Walks as Handed}
 use Rattle.desk.specs.declared.laps.Taker.{Taker}
 use Rattle.desk.specs.declared.laps.Walked.{Walked}
-use Rattle.desk.proofs.Call.WalkSteps.{var, part, sets, ends, answers}
-use Rattle.desk.proofs.Call.TakerRows.{R, records}
+use Rattle.desk.proofs.Lapping.WalkSteps.{var, part, sets, ends, answers}
+use Rattle.desk.proofs.Lapping.TakerRows.{R, records}
 use Rattle.desk.proofs.laps.Taker as T
 use Rattle.desk.proofs.laps.Taker.Laws as T′
 use Rattle.desk.proofs.laps.Lapped as D

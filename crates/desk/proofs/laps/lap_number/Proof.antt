@@ -4,7 +4,7 @@ use native.Mathlib.Omega.{arith}
 use borrow.Author.Needs.{needs}
 use borrow.Author.Tests.{not-false}
 use Rattle.table.proofs.Shaped.Shapes.{shape-length}
-use Rattle.desk.proofs.Call.LapNumber.{no-shape, asked}
+use Rattle.desk.proofs.Lapping.LapNumber.{no-shape, asked}
 use Rattle.desk.proofs.laps.lap_number.Statement.{statement}
 use Rattle.desk.proofs.laps.lap_number.Tie as tie
 

@@ -7,8 +7,8 @@ use Prim.Native.Nat.{ℕ}
 use native.Mathlib.Omega.{arith}
 use borrow.Author.Needs.{needs}
 use Rattle.table.proofs.Shaped.Alike.{bytes-rams}
-use Rattle.desk.proofs.Call.Going.{Going}
-use Rattle.desk.proofs.Call.LapLoop.{steps-left, starts, same-size, ends, going-shape, going-small, turn-other, turn-part, turn-passed}
+use Rattle.desk.proofs.Lapping.Going.{Going}
+use Rattle.desk.proofs.Lapping.LapLoop.{steps-left, starts, same-size, ends, going-shape, going-small, turn-other, turn-part, turn-passed}
 use Rattle.desk.proofs.laps.run.Statement.{statement}
 use Rattle.desk.proofs.laps.run.Tie as tie
 

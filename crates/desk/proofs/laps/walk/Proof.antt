@@ -1,8 +1,8 @@
 -- `desk::laps::walk` meets its contract. Assumes nothing.
 use mathlib.Core.Path.{sym, _∙_}
 use borrow.Author.Needs.{needs}
-use Rattle.desk.proofs.Call.LapNumber.{lap-shape, lap-lost, lap-two}
-use Rattle.desk.proofs.Call.LapDone.{refused, run}
+use Rattle.desk.proofs.Lapping.LapNumber.{lap-shape, lap-lost, lap-two}
+use Rattle.desk.proofs.Lapping.LapDone.{refused, run}
 use Rattle.desk.proofs.laps.walk.Statement.{statement}
 use Rattle.desk.proofs.laps.walk.Tie as tie
 

@@ -8,7 +8,7 @@ use borrow.Author.Needs.{needs}
 use Rattle.table.proofs.calls.write_on.Reads as write-on
 use Rattle.desk.specs.Order.{RECEIVE, LONG}
 use Rattle.desk.specs.Load.{set19, setId, setLong, setReceive, set38, loadedRow}
-use Rattle.desk.proofs.Loads.LoadSteps.{at-place, is-made, is-skipped, ready-19, ready-id, ready-long, ready-receive, ready-row}
+use Rattle.desk.proofs.Loads.LoadSteps.{at-place, is-made, is-skipped, writable-19, writable-id, writable-long, writable-receive, writable-row}
 use Rattle.desk.proofs.loading.load_row.Statement.{statement}
 use Rattle.desk.proofs.loading.load_row.Tie as tie
 use Rattle.desk.proofs.loading.load_row.Reads as reads
@@ -41,22 +41,22 @@ opened c =
 write-on-requires-2 : tie.Need-write-on-requires-2
 write-on-requires-2 c κs =
     let a = c .before .before .before .before .before .before in
-    at-place _ _ (a .pre .1) _ _ (c .before .before .before .write-on .ensures .1) (ready-19 _ _ (a .pre))
+    at-place _ _ (a .pre .1) _ _ (c .before .before .before .write-on .ensures .1) (writable-19 _ _ (a .pre))
 
 write-on-requires-3 : tie.Need-write-on-requires-3
 write-on-requires-3 c κs =
     let a = c .before .before .before .before .before .before .before .before .before .before .before in
-    at-place _ _ (a .pre .1) _ _ (named (c .before .before)) (ready-id _ _ (a .pre) (a .args .id) (a .args .flags))
+    at-place _ _ (a .pre .1) _ _ (named (c .before .before)) (writable-id _ _ (a .pre) (a .args .id) (a .args .flags))
 
 write-on-requires-4 : tie.Need-write-on-requires-4
 write-on-requires-4 c κs =
     let a = c .before .before .before .before .before .before .before .before .before .before .before .before in
-    at-place _ _ (a .pre .1) _ _ (sized (c .before .before)) (ready-long _ _ (a .pre) (a .args .id) (a .args .flags))
+    at-place _ _ (a .pre .1) _ _ (sized (c .before .before)) (writable-long _ _ (a .pre) (a .args .id) (a .args .flags))
 
 write-on-requires-5 : tie.Need-write-on-requires-5
 write-on-requires-5 c κs =
     let a = c .before .before .before .before .before .before .before .before .before .before .before .before in
-    at-place _ _ (a .pre .1) _ _ (opened (c .before)) (ready-receive _ _ (a .pre) (a .args .id) (a .args .flags))
+    at-place _ _ (a .pre .1) _ _ (opened (c .before)) (writable-receive _ _ (a .pre) (a .args .id) (a .args .flags))
 
 loaded : (c : lts.After-slice-known6 (write-on.Asked, write-on.Learnt) reads.Pre reads.Post)
     → let a = c .before .before .before .before .before .before .before .before .before .before .before .before .before .before .before .args in
@@ -69,7 +69,7 @@ loaded c =
 same-length : tie.Need-same-length
 same-length c =
     let a = c .before .before .before .before .before .before .before .before .before .before .before .before .before .before .before in
-    ap length (loaded c) ∙ ready-row _ _ (a .pre) (a .args .id) (a .args .flags) .long
+    ap length (loaded c) ∙ writable-row _ _ (a .pre) (a .args .id) (a .args .flags) .long
 
 pub load-row-spec : {M : Type 1} → statement M
 load-row-spec =

@@ -1,0 +1,37 @@
+-- What a packet that is read out of a page is like: its 512 bytes, and its COUNT.
+-- Assumes nothing.
+use mathlib.Core.Path.{_≡_, refl}
+use mathlib.Core.List.{List}
+use Prim.Native.Nat.{ℕ, _+_, _≤_, _<_}
+use native.Mathlib.Omega.{arith}
+use lib.ListN.{length, getD, set, length-append, length-replicate}
+use lib.Seq.{getD-set-other}
+use Rattle.card.specs.Row.{registerBytes, rowBytes, regsOf}
+use Rattle.card.specs.Packets.{dataAt, pageBytes, pageAt, pageShape, packetAt, stamped}
+use Rattle.card.proofs.Words.Laid.{length-part}
+use Rattle.card.proofs.Pages.Sizes.{page-most, page-fits, count-byte}
+
+-- the bytes of a row's RAM are bytes
+abbrev pub Ram : List ℕ → Type 0
+Ram r = (i : ℕ) → registerBytes ≤ i → getD r i 0 < 256
+
+module _ (r : List ℕ) (p : ℕ) where
+  pub packet-full : length r ≡ rowBytes → p < 4 → length (packetAt r p .bytes) ≡ 512
+  unfolding packetAt
+  packet-full l h =
+      let n : ℕ = pageBytes (pageShape r p) in
+      simp (length-append, length-replicate, length-part (pageAt p) n r (omega (arith, page-fits r p h (pageShape r p) refl)))
+      (omega (arith, page-most (pageShape r p)))
+
+  pub packet-count : Ram r → dataAt (packetAt r p .shape) < 256
+  unfolding packetAt pageShape
+  packet-count b = count-byte _ _ _ (b (pageAt p + 2) (omega arith)) (b (pageAt p + 3) (omega arith))
+
+  -- a page that is stamped: COUNT stands past the byte that is written
+  pub stamped-count : Ram r → dataAt (packetAt (stamped r p) p .shape) < 256
+  unfolding packetAt pageShape stamped
+  stamped-count b =
+      count-byte _ _ _ (past 2 (omega arith)) (past 3 (omega arith))
+    where
+      past : (x : ℕ) → 0 < x → getD (set r (pageAt p) (regsOf r .id)) (pageAt p + x) 0 < 256
+      past x h = rw (getD-set-other r (pageAt p) (pageAt p + x) (regsOf r .id) 0 (λ e. omega arith)) (b (pageAt p + x) (omega arith))

@@ -1,0 +1,147 @@
+-- Each kind of change, row by row: what it does to every row, and that it keeps SHAPE, the number of rows and their IDs, who is on line, and the RAMs.
+-- Assumes nothing.
+use mathlib.Core.Path.{_≡_, refl, sym, _∙_, ap}
+use mathlib.Core.Bool.{Bool, true, false, false≢true}
+use mathlib.Core.List.{List}
+use mathlib.Core.Logic.{⊎-elim}
+use Prim.Native.Nat.{ℕ, _<_}
+use native.Mathlib.Omega.{arith}
+use lib.Dec.{eqb}
+use lib.ListN.{length, getD}
+use borrow.Author.Tests.{eqb-true, eqb-false, eq-eqb, ne-eqb}
+use Rattle.card.specs.declared.regs.Regs.{Regs}
+use Rattle.line.specs.declared.passes.Event.{Event}
+use Rattle.line.specs.declared.passes.Event.the-variants.{Recovery, Message, Taken}
+use Rattle.card.specs.Words.{pick}
+use Rattle.card.specs.Row.{rowBytes, regsOf, wellFormed}
+use Rattle.card.specs.Packets.{stamped}
+use Rattle.card.proofs.Words.Bools.{cases}
+use Rattle.card.proofs.Rows.Bytes.{length-put, regs-put, well-fit}
+use Rattle.card.proofs.Registers.Fits.{Fit, fit-rules}
+use Rattle.card.proofs.StillBy.{well-stamped, regs-stamped}
+use Rattle.card.proofs.Pages.Stored.{length-stamped}
+use Rattle.card.proofs.Rows.Rams.{ram-stamped}
+use Rattle.table.specs.Network.{headerBytes, rows, holder, rowAt, setRow, onRegs, regsAt, shape}
+use Rattle.line.specs.Traffic.{onRow, happens, happened, carriedRow, carried}
+use Rattle.table.proofs.Rows.Networks.{length-setRow, setRow-header, rowAt-setRow, rowAt-setRow-other}
+use Rattle.table.proofs.Rows.EachRow.{reached}
+use Rattle.table.proofs.Shaped.Shapes.{shape-length, shape-within, shape-row, shape-row-length}
+use Rattle.table.proofs.Shaped.Kept.{Became}
+use Rattle.table.proofs.Shaped.Became.{Moved, Still, still-same, still-regs, became-rows, shape-moved}
+use Rattle.line.proofs.Change.Registers.{MovedBy, StillBy, row-moved, row-still, still-sent, still-asked, still-heard-sent, still-cancelled, still-message, still-taken, moved-risen, reaches}
+use Rattle.line.proofs.Change.Stored.{carried-still}
+use Rattle.line.proofs.Steps.Stepped.{held-row}
+use Rattle.line.proofs.Change.Changes.{Own, Rises, Cancels, Enquires, Ends, does, Change, Reaches, Does, Stamps, Carries, done, rowDone, Sane, keepsNid}
+
+-- ---- a row: as long, kept, with a RAM of bytes; and with its NID, where n says so
+record Fine (r : List ℕ) (n : Bool) (s : List ℕ) : Type 0 where
+  long : length s ≡ rowBytes
+  moved : Moved r s
+  nid : n ≡ true → regsOf s .nid ≡ regsOf r .nid
+
+module _ (r : List ℕ) (l : length r ≡ rowBytes) (w : wellFormed r ≡ true) where
+  fine-still : (s : List ℕ) → length s ≡ rowBytes → Still r s → Fine r true s
+  fine-still s e q = record { long = e; moved = q .moved; nid = λ _. q .nid }
+
+  fine-stays : (f : Regs → Regs) → StillBy f → Fine r true (onRegs f r)
+  fine-stays f q = fine-still _ (length-put r _ ∙ l) (row-still r l w _ (q (regsOf r) (fit-rules (regsOf r) (well-fit r w))))
+
+  fine-keeps : (f : Regs → Regs) → MovedBy f → Fine r false (onRegs f r)
+  fine-keeps f q = record {
+    long = length-put r _ ∙ l;
+    moved = row-moved r l w _ (q (regsOf r) (fit-rules (regsOf r) (well-fit r w)));
+    nid = λ e. absurd (false≢true e);
+  }
+
+  -- the holder's row, or another
+  fine-pick : (n : Bool) (s : List ℕ) (b : Bool) → Fine r n s → Fine r n (pick b s r)
+  fine-pick n s true q = q
+  fine-pick n s false q = let e = still-same r w in record { long = l; moved = e .moved; nid = λ _. refl }
+
+  fine : (h : ℕ) (c : Change) → Sane c → (j : ℕ) → Fine r (keepsNid c) (rowDone h c j r)
+  fine h (Reaches Recovery) a j = fine-keeps _ (reaches Recovery j)
+  fine h (Reaches (Message k token)) a j = fine-stays _ (still-message k token j)
+  fine h (Reaches (Taken i t)) a j = fine-stays _ (still-taken i t j)
+  fine h (Does Rises) a j = fine-pick false _ (eqb j h) (fine-keeps _ moved-risen)
+  fine h (Does Cancels) a j = fine-pick true _ (eqb j h) (fine-stays _ still-cancelled)
+  fine h (Does (Enquires nak)) a j = fine-pick true _ (eqb j h) (fine-stays _ (still-asked nak))
+  fine h (Does (Ends true x)) a j = fine-pick true _ (eqb j h) (fine-stays _ (still-heard-sent false x))
+  fine h (Does (Ends false x)) a j = fine-pick true _ (eqb j h) (fine-stays _ (still-sent x))
+  fine h (Stamps p) a j =
+      fine-pick true _ (eqb j h)
+      (fine-still _ (length-stamped r p ∙ l) (still-regs r _ (well-stamped r l w p) (regs-stamped r l p) (λ i b. ram-stamped r b p i)))
+  fine h (Carries to broadcast k) a j =
+      let q = carried-still k (a .full) (a .count) (a .small) h to broadcast j r l w in fine-still _ (q .0) (q .1)
+
+  pub done-nid : (h : ℕ) (c : Change) → Sane c → (j : ℕ) → keepsNid c ≡ true → regsOf (rowDone h c j r) .nid ≡ regsOf r .nid
+  done-nid h c a j = fine h c a j .nid
+
+-- ---- a network: each row is changed so, and all else is as it was
+pub record Made (h : ℕ) (net : List ℕ) (c : Change) : Type 0 where
+  pub long : length (done h c net) ≡ length net
+  pub header : (x : ℕ) → x < headerBytes → getD (done h c net) x 0 ≡ getD net x 0
+  pub row : (j : ℕ) → j < rows net → rowAt (done h c net) j ≡ rowDone h c j (rowAt net j)
+
+module _ (net : List ℕ) (h : ℕ) (s : shape net ≡ true) (l : h < rows net) where
+  fine-row : (c : Change) → Sane c → (j : ℕ) → j < rows net → Fine (rowAt net j) (keepsNid c) (rowDone h c j (rowAt net j))
+  fine-row c a j b = fine (rowAt net j) (shape-row-length net s j b) (shape-row net s j b) h c a j
+
+  -- row h is given other bytes
+  made-set : (c : Change) → Sane c → (f : List ℕ → List ℕ) → ((j : ℕ) (r : List ℕ) → rowDone h c j r ≡ pick (eqb j h) (f r) r)
+      → done h c net ≡ setRow net h (f (rowAt net h)) → Made h net c
+  made-set c a f is new =
+      let w = shape-within net s h l in
+      let r = f (rowAt net h) in
+      let i : rowDone h c h (rowAt net h) ≡ r = is h (rowAt net h) ∙ rw (eq-eqb h h refl) in
+      let e : length r ≡ rowBytes = ap length (sym i) ∙ fine-row c a h l .long in record {
+        long = rw new (length-setRow net h r w e);
+        header = rw new (setRow-header net h r w e);
+        row = λ j b. rw (new, is j (rowAt net j)) (⊎-elim (λ (t : eqb j h ≡ true). rw (t, eqb-true j h t) (rowAt-setRow net h r w e))
+            (λ (t : eqb j h ≡ false). rw t (rowAt-setRow-other net h r w e j (eqb-false j h t) (shape-within net s j b))) (cases (eqb j h)));
+      }
+
+  pub made : (c : Change) → Sane c → Made h net c
+  unfolding happened onRow carried
+  made (Reaches e) a =
+      let d = reached (λ k r. onRegs (happens e k) r) net (rows net) (omega (arith, shape-length net s)) (λ j b. fine-row (Reaches e) a j b .long) in
+      record { long = d .long; header = d .header; row = d .row }
+  made (Does o) a = made-set (Does o) a (onRegs (does o)) (λ j r. refl) refl
+  made (Stamps p) a = made-set (Stamps p) a (λ r. stamped r p) (λ j r. refl) refl
+  made (Carries to broadcast k) a =
+      let d = reached (carriedRow h to broadcast k) net (rows net) (omega (arith, shape-length net s)) (λ j b. fine-row (Carries to broadcast k) a j b .long) in
+      record { long = d .long; header = d .header; row = d .row }
+
+  module _ (c : Change) (a : Sane c) where
+    pub moved-done : Became Moved net (done h c net)
+    moved-done = let m = made c a in record { long = m .long; header = m .header; row = λ j b. rw (m .row j b) (fine-row c a j b .moved) }
+
+    pub shape-done : shape (done h c net) ≡ true
+    shape-done = shape-moved s moved-done
+
+    pub rows-done : rows (done h c net) ≡ rows net
+    rows-done = became-rows moved-done
+
+  -- the holder's own registers after a change of them, and every other row
+  pub own-here : (o : Own) → regsAt (onRow net h (does o)) h ≡ does o (regsAt net h)
+  own-here o =
+      let i : rowAt (onRow net h (does o)) h ≡ onRegs (does o) (rowAt net h) = made (Does o) tt .row h l ∙ rw (eq-eqb h h refl) in
+      ap regsOf i ∙ regs-put (rowAt net h) _ (omega (arith, shape-row-length net s h l))
+
+  pub own-there : (o : Own) (j : ℕ) → j < rows net → (j ≡ h → ⊥) → rowAt (onRow net h (does o)) j ≡ rowAt net j
+  own-there o j b n = made (Does o) tt .row j b ∙ rw (ne-eqb j h n)
+
+  pub row-fits : Fit (regsAt net h)
+  row-fits = fit-rules (regsAt net h) (well-fit (rowAt net h) (shape-row net s h l))
+
+-- an event
+module _ (net : List ℕ) (e : Event) (s : shape net ≡ true) where
+  pub shape-happened : shape (happened net e) ≡ true
+  shape-happened = shape-done net (holder net) s (held-row net s) (Reaches e) tt
+
+  pub rows-happened : rows (happened net e) ≡ rows net
+  rows-happened = rows-done net (holder net) s (held-row net s) (Reaches e) tt
+
+  pub happened-here : (j : ℕ) → j < rows net → regsAt (happened net e) j ≡ happens e j (regsAt net j)
+  happened-here j b =
+      ap regsOf (made net (holder net) s (held-row net s) (Reaches e) tt .row j b)
+      ∙ regs-put (rowAt net j) _ (omega (arith, shape-row-length net s j b))

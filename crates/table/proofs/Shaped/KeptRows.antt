@@ -1,0 +1,50 @@
+-- What the calls leave of a well formed row: a read and a burst keep it, and a write gives it the registers that it says.
+-- Assumes nothing.
+use mathlib.Core.Path.{_≡_, refl, sym, _∙_, ap}
+use mathlib.Core.Bool.{true, false}
+use mathlib.Core.List.{List}
+use Prim.Native.Nat.{ℕ}
+use native.Mathlib.Omega.{arith}
+use lib.ListN.{length}
+use Rattle.card.specs.declared.regs.Regs.{Regs}
+use Rattle.card.specs.Row.{rowBytes, regsOf, putRegs, onLine, wellFormed}
+use Rattle.card.specs.Registers.{pointer, afterWrite, hardwareReset}
+use Rattle.card.specs.Access.{pointed, rowAfterRead, ramWritten, rowAfterWrite, rowAfterReset}
+use Rattle.card.specs.Events.{burst}
+use Rattle.card.proofs.Rows.Bytes.{regs-put, well-fit}
+use Rattle.card.proofs.Registers.Fits.{fit-rules}
+use Rattle.card.proofs.Registers.FitEvents.{fit-burst}
+use Rattle.card.proofs.Registers.SameCard as card
+use Rattle.card.proofs.Rows.Accesses.{write-done, length-ram}
+use Rattle.card.proofs.Rows.WellFormed.{well-regs, well-read}
+use Rattle.card.proofs.Rows.Touched.{same-row}
+use Rattle.table.specs.Network.{onRegs}
+use Rattle.table.proofs.Shaped.Kept.{Kept}
+
+module _ (r : List ℕ) (l : length r ≡ rowBytes) where
+  -- other registers of the same card
+  pub kept-put : (h : Regs) → wellFormed (putRegs r h) ≡ true → card.SameCard (regsOf r) h → Kept r (putRegs r h)
+  kept-put h w k =
+      let e = regs-put r h (omega arith) in record {
+        well = w;
+        id = ap (λ (g : Regs). g .id) e ∙ k .id;
+        online = ap onLine e ∙ card.on-line-same (regsOf r) h (k .id) (k .configuration);
+      }
+
+  pub kept-burst : wellFormed r ≡ true → Kept r (onRegs burst r)
+  kept-burst w =
+      kept-put (burst (regsOf r)) (well-regs r l w (burst (regsOf r)) (fit-burst (regsOf r) (fit-rules (regsOf r) (well-fit r w)))) (card.same-burst (regsOf r))
+
+  pub kept-read : (k : ℕ) → wellFormed r ≡ true → Kept r (rowAfterRead r k)
+  kept-read k w =
+      let c = same-row r l k in
+      record { well = well-read r l w k; id = c .id; online = card.on-line-same (regsOf r) (regsOf (rowAfterRead r k)) (c .id) (c .configuration) }
+
+  pub reset-off : onLine (regsOf (rowAfterReset r)) ≡ false
+  reset-off = ap onLine (regs-put r hardwareReset (omega arith)) ∙ card.reset-off
+
+  pub regs-write : (k v : ℕ) → regsOf (rowAfterWrite r k v) ≡ afterWrite (regsOf r) k v
+  regs-write k v =
+      let m = ramWritten r k (pointed r) v in
+      ap regsOf (sym (write-done r k (regsOf r) refl (pointer (regsOf r)) refl v m refl (afterWrite (regsOf r) k v) refl _ refl))
+      ∙ regs-put m (afterWrite (regsOf r) k v) (omega (arith, length-ram r k (pointed r) v))
