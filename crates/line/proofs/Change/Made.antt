@@ -18,7 +18,7 @@ use Rattle.card.specs.Packets.{stamped}
 use Rattle.card.proofs.Words.Bools.{cases}
 use Rattle.card.proofs.Rows.Bytes.{length-put, regs-put, well-fit}
 use Rattle.card.proofs.Registers.Fits.{Fit, fit-rules}
-use Rattle.card.proofs.StillBy.{well-stamped, regs-stamped}
+use Rattle.card.proofs.Rows.WellFormed.{well-stamped, regs-stamped}
 use Rattle.card.proofs.Pages.Stored.{length-stamped}
 use Rattle.card.proofs.Rows.Rams.{ram-stamped}
 use Rattle.table.specs.Network.{headerBytes, rows, holder, rowAt, setRow, onRegs, regsAt, shape}

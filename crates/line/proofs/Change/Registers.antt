@@ -18,7 +18,7 @@ use Rattle.card.proofs.Registers.Fits.{Fit}
 use Rattle.card.proofs.Registers.FitEvents.{fit-heard, fit-answered, fit-recovered, fit-risen, fit-received, fit-cancelled, fit-sent}
 use Rattle.card.proofs.Registers.SameCard as card
 use Rattle.card.proofs.Pages.Waiting.{enquired-nak, enquired-unanswered}
-use Rattle.card.proofs.StillBy.{well-regs}
+use Rattle.card.proofs.Rows.WellFormed.{well-regs}
 use Rattle.card.proofs.Rows.Rams.{ram-put}
 use Rattle.line.specs.Traffic.{happens}
 use Rattle.table.proofs.Shaped.Became.{Moved, Still}

@@ -15,7 +15,7 @@ use Rattle.card.proofs.Rows.Bytes.{length-put, well-fit}
 use Rattle.card.proofs.Registers.Fits.{fit-rules}
 use Rattle.card.proofs.Pages.Waiting.{receive-room}
 use Rattle.card.proofs.Pages.Stored.{length-stored}
-use Rattle.card.proofs.StillBy.{well-stored, regs-stored}
+use Rattle.card.proofs.Rows.WellFormed.{well-stored, regs-stored}
 use Rattle.card.proofs.Rows.Rams.{Small, ram-stored}
 use Rattle.line.specs.Traffic.{storedRow, takes, carriedRow}
 use Rattle.table.proofs.Shaped.Became.{Still, still-same, still-regs, still-after}

@@ -23,7 +23,7 @@ use Rattle.card.proofs.Words.Bools.{cases, and-left, and-right, pick-of}
 use Rattle.card.proofs.Rows.Bytes.{regs-put, put-rest}
 use Rattle.card.proofs.Registers.Fits.{Fit}
 use Rattle.card.proofs.Pages.Waiting.{enquired-nak, enquired-unanswered}
-use Rattle.card.proofs.StillBy.{regs-stamped}
+use Rattle.card.proofs.Rows.WellFormed.{regs-stamped}
 use Rattle.card.proofs.Rows.Bystanders.{stamped-other}
 use Rattle.card.proofs.Registers.Ends.{is-sent, heard-status, waits, idle, cancelled-tma}
 use Rattle.card.proofs.Registers.FitEvents.{fit-cancelled}
