@@ -2,7 +2,7 @@
 -- Assumes nothing.
 use mathlib.Core.Path.{_≡_, refl, sym, _∙_, ap}
 use mathlib.Core.Bool.{Bool, true, false, not}
-use mathlib.Core.List.{List, [], _∷_, _++_}
+use mathlib.Core.List.{List, [], _++_}
 use Prim.Native.Nat.{ℕ, _+_, _-_, _≤_, _<_}
 use native.Mathlib.Omega.{arith}
 use lib.Dec.{leb}
@@ -10,10 +10,9 @@ use lib.ListN.{length}
 use borrow.Author.Tests.{eq-eqb, ne-eqb, leb-false, lt-leb, not-false}
 use borrow.Rule.Slice.PartMut.{midOf, putMid}
 use Rattle.card.specs.declared.regs.Regs.{Regs}
-use Rattle.card.specs.Numbers.{DONE, NOTREADY, Refusal, _when_, refuse, told, refuses}
-use Rattle.card.specs.Row.{rowBytes, putRegs, onLine}
+use Rattle.card.specs.Numbers.{DONE, Refusal, refuse, told, refuses}
+use Rattle.card.specs.Row.{rowBytes, putRegs}
 use Rattle.card.specs.Registers.{interrupt}
-use Rattle.card.specs.Refusals.{readRefusals}
 use Rattle.card.specs.Access.{valueRead, rowAfterRead}
 use Rattle.card.specs.Packets.{pageData}
 use Rattle.card.specs.Events.{burst}
@@ -21,10 +20,9 @@ use Rattle.card.proofs.Told.Smallest.{refuse-held, refuse-passed, refuse-stays,
 use Rattle.table.specs.declared.calls.Reading.{Reading}
 use Rattle.table.specs.declared.calls.Interrupting.{Interrupting}
 use Rattle.table.specs.Numbers.{SHAPE, ROW}
-use Rattle.table.specs.Network.{rowLimit, rowStart, rows, LOST, turned, rowAt, setRow, regsAt, onLineAt, shape}
-use Rattle.table.specs.Calls.{placeRefusals, placeNumber, netReadNumber, netReading, netAfterRead, rowWriteRefusals, netWriteNumber, timerNumber, netAfterTimer, netInterrupt, netData}
+use Rattle.table.specs.Network.{rowLimit, rowStart, rows, LOST, turned, rowAt, setRow, regsAt, shape}
+use Rattle.table.specs.Calls.{placeRefusals, placeNumber, netReadNumber, netReading, netAfterRead, netWriteNumber, timerNumber, netAfterTimer, netInterrupt, netData}
 use Rattle.table.proofs.Rows.Networks.{mid-row, put-row}
-use Rattle.table.proofs.Online.Nodes.{online-is}
 use Rattle.table.proofs.Shaped.Shapes.{shape-rows, shape-within}
 
 -- a row as the code lends it, and the network with what comes back
@@ -108,15 +106,15 @@ module _ (net : List ℕ) (k : ℕ) where
 
   pub read-placed : (g : ℕ) → netReadNumber net k g ≡ 0 → placeNumber net k ≡ 0
   unfolding netReadNumber
-  read-placed g = placed (readRefusals (regsAt net k) g)
+  read-placed g = placed _
 
   pub write-placed : (g v : ℕ) → netWriteNumber net k g v ≡ 0 → placeNumber net k ≡ 0
   unfolding netWriteNumber
-  write-placed g v = placed (rowWriteRefusals net k g v)
+  write-placed g v = placed _
 
   pub timer-placed : timerNumber net k ≡ 0 → placeNumber net k ≡ 0
   unfolding timerNumber
-  timer-placed = placed (NOTREADY when not (onLineAt net k) ∷ [])
+  timer-placed = placed _
 
   pub row-there : placeNumber net k ≡ 0 → (shape net ≡ true) × (k < rows net)
   row-there z = (at-shape net k (placeNumber net k) refl z, at-row net k (placeNumber net k) refl z)
@@ -139,10 +137,6 @@ module _ (net : List ℕ) (k g n : ℕ) (p : n ≡ netReadNumber net k g) where
   )
 
 -- ---- the lost-token timer
-pub timer-asked : (net : List ℕ) (k : ℕ) (g : Regs) (b : Bool) → g ≡ regsAt net k → b ≡ onLine g → (m : ℕ) → m ≡ refuse DONE NOTREADY (not b)
-    → m ≡ told (NOTREADY when not (onLineAt net k) ∷ [])
-timer-asked net k g b e q m f = f ∙ rw (online-is net k g b e q)
-
 module _ (net : List ℕ) (k n : ℕ) (p : n ≡ timerNumber net k) where
   pub timer-part : n ≡ 0 → (k < rowLimit) × (rowStart k + rowBytes ≤ length net)
   timer-part z = at-part net k (placeNumber net k) refl (timer-placed net k (sym p ∙ z))

@@ -1,7 +1,8 @@
 -- `table::calls::timer_number` meets its contract. Assumes nothing.
 use borrow.Author.Needs.{needs}
+use Rattle.table.specs.Network.{onLineAt}
 use Rattle.table.specs.Calls.{timerNumber}
-use Rattle.table.proofs.Access.Placed.{at-part, placed-refused, placed-asked, timer-asked}
+use Rattle.table.proofs.Access.Placed.{at-part, placed-refused, placed-asked}
 use Rattle.table.proofs.calls.timer_number.Statement.{statement}
 use Rattle.table.proofs.calls.timer_number.Tie as tie
 
@@ -13,12 +14,10 @@ regs-at-requires : tie.Need-regs-at-requires
 regs-at-requires c κs = at-part _ _ _ (c .before .place-number .ensures) (c .if1 .left) .1
 
 returns-2 : tie.Need-returns-2
-unfolding timerNumber
+unfolding timerNumber onLineAt
 returns-2 c =
-    let o = c .before in
-    let i = o .before .before in
-    placed-asked _ _ _ (i .before .place-number .ensures) _ (i .if1 .left) _
-    (timer-asked _ _ _ _ (o .before .regs-at .ensures) (o .on-line .ensures) _ (c .refuse .ensures))
+    let i = c .before .before .before in
+    placed-asked _ _ _ (i .before .place-number .ensures) _ (i .if1 .left) _ (cc)
 
 pub timer-number-spec : {M : Type 1} → statement M
 timer-number-spec =
