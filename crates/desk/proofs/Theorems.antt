@@ -4,3 +4,4 @@ pub mod LapCall
 pub mod Summed
 pub mod Promised
 pub mod Rising
+pub mod Standing

@@ -10,14 +10,14 @@ use Rattle.card.specs.Packets.{shapeOf, dataBytes, CanBeSent, malformed}
 use Rattle.card.specs.Bystander.{Bystander, Storing, Sends}
 use Rattle.line.specs.declared.traffic.Outcome.{Outcome}
 use Rattle.line.specs.declared.step.Answer.the-variants.{Held}
-use Rattle.table.specs.Network.{headerBytes, rowLimit, rows, phase, holder, TAKEN, rowAt, regsAt, shape, SameFrame, OnlyRow}
+use Rattle.table.specs.Network.{headerBytes, rowLimit, rows, phase, holder, TAKEN, rowAt, regsAt, shape, SameFrame, OnlyRow, LOST, onLineAt}
 use Rattle.table.specs.Calls.{placeRefusals, placeNumber, netReadRefusals, netReading, netAfterRead, netWriteRefusals, netWriteNumber, netAfterWrite, netAfterReset, timerRefusals, timerNumber, netAfterTimer, netInterrupt, netData, netDataRefusals, netDataNumber, freshRefusals, freshNumber, netAfterFresh}
-use Rattle.line.specs.Step.{stepRefusals, step, answerNumber, answerValue}
+use Rattle.line.specs.Step.{stepRefusals, step, answerNumber, answerValue, highest}
 use Rattle.line.specs.Outcomes.{stores, HolderLeft, meets}
 use Rattle.desk.specs.declared.laps.Taker.{Taker}
 use Rattle.desk.specs.declared.laps.Lapped.{Lapped}
 use Rattle.desk.specs.Numbers.{ORDER}
-use Rattle.desk.specs.Order.{records, orderFits, nameAt}
+use Rattle.desk.specs.Order.{records, orderFits, nameAt, idAt}
 use Rattle.desk.specs.Load.{roomRefusals, loadNumber, netAfterLoad}
 use Rattle.desk.specs.Lap.{nodes, after, answers, takers, lapSteps, lapRefusals, lapNumber, lapped, netAfterLap, lapTakers, listAfterLap, Walks}
 use Rattle.desk.specs.Demand.{Call, table, steps, answersOf, Throughout, LapOf}
@@ -52,6 +52,26 @@ pub record SmallestWins : Type 0 where
   pub lap : (net : List ℕ) (room : ℕ) → Smallest (lapRefusals net room) (lapped net room .number)
   pub load-order : (order net : List ℕ) → orderFits order ≡ false → loadNumber order net ≡ ORDER
   pub load-room : (order net : List ℕ) → orderFits order ≡ true → Smallest (roomRefusals order net) (loadNumber order net)
+
+-- ---- a call leaves a well-formed network well formed, and what the fresh call and loading make is so: no call can bring the bench where SHAPE refuses it
+pub record StaysWellFormed : Type 0 where
+  pub read : (net : List ℕ) → shape net ≡ true → (k g : ℕ) → shape (netAfterRead net k g) ≡ true
+  pub write : (net : List ℕ) → shape net ≡ true → (k g v : ℕ) → shape (netAfterWrite net k g v) ≡ true
+  pub reset : (net : List ℕ) → shape net ≡ true → (k : ℕ) → shape (netAfterReset net k) ≡ true
+  pub timer : (net : List ℕ) → shape net ≡ true → (k : ℕ) → shape (netAfterTimer net k) ≡ true
+  pub step-of : (net : List ℕ) → ((i : ℕ) → getD net i 0 < 256) → shape net ≡ true → (fault : ℕ) → shape (step net fault .after) ≡ true
+  pub lap : (net : List ℕ) → ((i : ℕ) → getD net i 0 < 256) → shape net ≡ true → (room : ℕ) → shape (netAfterLap net room) ≡ true
+  pub fresh : (net : List ℕ) (n : ℕ) → freshNumber net n ≡ 0 → shape (netAfterFresh net n) ≡ true
+  pub load : (order net : List ℕ) → loadNumber order net ≡ 0 → shape (netAfterLoad order net) ≡ true
+
+-- ---- what loading gives: a row for each record, in LOST, row k on line with record k's ID
+pub record TheLoading (order net : List ℕ) : Type 0 where
+  pub count : rows (netAfterLoad order net) ≡ records order
+  pub lost : phase (netAfterLoad order net) ≡ LOST
+  pub row : (k : ℕ) → k < records order → (onLineAt (netAfterLoad order net) k ≡ true) × (regsAt (netAfterLoad order net) k .id ≡ idAt order k)
+
+abbrev pub LoadingGives : Type 0
+LoadingGives = (order net : List ℕ) → loadNumber order net ≡ 0 → TheLoading order net
 
 -- ---- demand 2, "no other byte moves": a call that names a row changes, but for phase and holder, that row alone, and a read leaves these too. A step leaves
 -- the length and, but for phase and holder, the header. A row that is not the holder in TAKEN stores the packet of the step or does not: one that does had RI 0
@@ -121,6 +141,9 @@ pub record TheLap (net : List ℕ) (room : ℕ) : Type 0 where
   pub count : length (lapTakers net room) ≡ nodes net
   pub made : lapSteps net ≡ 256 + 2 * nodes net
   pub left : netAfterLap net room ≡ after (lapSteps net) net
+  -- "until the first holder has the token again"
+  pub taken : phase (netAfterLap net room) ≡ TAKEN
+  pub first : holder (netAfterLap net room) ≡ highest net
   -- "every later lap takes exactly n": whatever calls come after it, as in demand 3, with any number m of laps among them
   pub later : (l : List Call) → Throughout net l (netAfterLap net room) → (m : ℕ) → steps l ≡ m * (2 * nodes net)
       → (l′ : List Call) → Throughout net l′ (table l (netAfterLap net room)) → steps l′ ≡ 2 * nodes net

@@ -136,20 +136,3 @@ module _ (f : ℕ → Bool) where
   pub seek-more : (k : ℕ) → seek f k ≡ k → f k ≡ false → seek f (k + 1) ≡ k + 1
   unfolding seek
   seek-more k s t = rw (add-one, s, le-ltb k k (omega arith), t)
-
--- ---- tests that are equal below n
-module _ (f g : ℕ → Bool) where
-  pub every-ext : (n : ℕ) → ((k : ℕ) → k < n → f k ≡ g k) → every f n ≡ every g n
-  unfolding every
-  every-ext zero e = refl
-  every-ext (suc n) e = rw (every-ext n (λ k l. e k (omega arith)), e n (omega arith))
-
-  pub some-ext : (n : ℕ) → ((k : ℕ) → k < n → f k ≡ g k) → some f n ≡ some g n
-  unfolding some
-  some-ext zero e = refl
-  some-ext (suc n) e = rw (some-ext n (λ k l. e k (omega arith)), e n (omega arith))
-
-  pub seek-ext : (n : ℕ) → ((k : ℕ) → k < n → f k ≡ g k) → seek f n ≡ seek g n
-  unfolding seek
-  seek-ext zero e = refl
-  seek-ext (suc n) e = rw (seek-ext n (λ k l. e k (omega arith)), e n (omega arith))

@@ -50,7 +50,7 @@ pub spaces-end : (s : List ℕ) (i : ℕ) → length s ≤ i → spaces (drop i 
 unfolding spaces
 spaces-end s i h = rw (drop-of-length-le s h)
 
-pub spaces-more : (s : List ℕ) (i : ℕ) → i < length s → getD s i 0 ≡ 0x20 → spaces (drop (suc i) s) ≡ true → spaces (drop i s) ≡ true
+spaces-more : (s : List ℕ) (i : ℕ) → i < length s → getD s i 0 ≡ 0x20 → spaces (drop (suc i) s) ≡ true → spaces (drop i s) ≡ true
 unfolding spaces
 spaces-more s i h e t = rw (drop-cons s i 0 h, eq-eqb _ _ e, t)
 
@@ -66,7 +66,7 @@ unfolding trimmed
 trim-none [] t = refl
 trim-none (x ∷ l) t = rw t
 
-pub trim-to : (l : List ℕ) (n : ℕ) → n < length l → (getD l n 0 ≡ 0x20 → ⊥) → spaces (drop (suc n) l) ≡ true → trimmed l ≡ take (suc n) l
+trim-to : (l : List ℕ) (n : ℕ) → n < length l → (getD l n 0 ≡ 0x20 → ⊥) → spaces (drop (suc n) l) ≡ true → trimmed l ≡ take (suc n) l
 unfolding trimmed
 trim-to [] n h ne t = absurd (not-suc-le-zero h)
 trim-to (x ∷ l) zero h ne t = rw (spaces-not (x ∷ l) zero h ne, trim-none l t)

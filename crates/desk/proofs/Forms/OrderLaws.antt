@@ -1,17 +1,17 @@
--- What an order that ORDER does not refuse is like, part by part, and what makes one.
+-- What an order that ORDER does not refuse is like, part by part.
 -- Assumes nothing.
 use mathlib.Core.Path.{_≡_, sym}
-use mathlib.Core.Bool.{Bool, true, false, not}
+use mathlib.Core.Bool.{Bool, true, not}
 use mathlib.Core.List.{List, [], _∷_}
 use mathlib.Core.Logic.{⊎-elim}
-use Prim.Native.Nat.{ℕ, _*_, _%_, _≤_, _<_}
+use Prim.Native.Nat.{ℕ, _%_, _≤_, _<_}
 use native.Mathlib.Omega.{arith}
 use lib.Dec.{eqb, leb, ltb, lit<}
 use lib.ListN.{length, getD}
-use borrow.Author.Tests.{eqb-true, eq-eqb, ne-eqb, ltb-true, ltb-false, lt-ltb, leb-true, le-leb, not-true}
+use borrow.Author.Tests.{eq-eqb, ltb-true, ltb-false, leb-true, not-true}
 use Rattle.card.proofs.Words.Bools.{cases, and-five, holds}
 use Rattle.table.specs.Network.{rowLimit}
-use Rattle.table.proofs.Folds.{clash, every-at, every-of, some-fails, some-not}
+use Rattle.table.proofs.Folds.{clash, every-at, some-fails}
 use Rattle.desk.specs.Order.{recordBytes, records, recordAt, mark, idOf, flagsOf, nameOf, printables, recordFits, recordsFit, idAt, idsDiffer, orderFits}
 use Rattle.desk.proofs.Forms.SeenIds.{first}
 
@@ -26,16 +26,8 @@ module _ (r : List ℕ) (t : recordFits r ≡ true) where
   unfolding recordFits
   at i l = holds (tests r) t i l
 
-  pub record-id : 0 < idOf r
+  record-id : 0 < idOf r
   record-id = leb-true _ _ (at 2 (lit< tt))
-
-  pub record-flags : flagsOf r ≤ 3
-  record-flags = leb-true _ _ (at 3 (lit< tt))
-
-pub record-of : (r : List ℕ) → (getD r 0 0 ≡ getD mark 0 0) × (getD r 1 0 ≡ getD mark 1 0) → 0 < idOf r → flagsOf r ≤ 3 → (getD r 4 0 ≡ 0x20 → ⊥)
-    → printables (nameOf r) ≡ true → recordFits r ≡ true
-unfolding recordFits
-record-of r m i f s p = simp (eq-eqb _ _ (m .0), eq-eqb _ _ (m .1), le-leb _ _ i, le-leb _ _ f, ne-eqb _ _ s, p)
 
 -- ---- the records
 abbrev pub Fit : List ℕ → ℕ → Type 0
@@ -47,10 +39,6 @@ fits order k = recordFits (recordAt order k)
 pub records-fit : (order : List ℕ) (n : ℕ) → recordsFit order n ≡ true → Fit order n
 unfolding recordsFit
 records-fit order n t k l = every-at (fits order) n k t l
-
-pub records-fit-of : (order : List ℕ) (n : ℕ) → Fit order n → recordsFit order n ≡ true
-unfolding recordsFit
-records-fit-of order n e = every-of (fits order) n e
 
 -- ---- their IDs
 abbrev pub Differ : List ℕ → ℕ → Type 0
@@ -69,13 +57,6 @@ ids-differ order n t j k lj lk e =
     (λ b. ⊎-elim (λ a. absurd (ids-below order n t k j (ltb-true _ _ a) lj (sym e)))
     (λ a. omega (arith, ltb-false j k b, ltb-false k j a)) (cases (ltb k j))) (cases (ltb j k))
 
-pub ids-differ-of : (order : List ℕ) (n : ℕ) → Differ order n → idsDiffer order n ≡ true
-unfolding idsDiffer
-ids-differ-of order n d = every-of (first order) n (λ k l. rw (some-not (λ j. eqb (idAt order j) (idAt order k)) k (apart k l)))
-  where
-    apart : (k : ℕ) → k < n → (j : ℕ) → j < k → eqb (idAt order j) (idAt order k) ≡ false
-    apart k l j b = ne-eqb _ _ (λ e. let z = d j k (omega arith) l e in omega arith)
-
 -- ---- the parts of ORDER
 module _ (order : List ℕ) (o : orderFits order ≡ true) where
   told : (eqb (length order % recordBytes) 0 ≡ true) × (ltb 0 (records order) ≡ true) × (leb (records order) rowLimit ≡ true)
@@ -85,14 +66,10 @@ module _ (order : List ℕ) (o : orderFits order ≡ true) where
       and-five (eqb (length order % recordBytes) 0) (ltb 0 (records order)) (leb (records order) rowLimit) (recordsFit order (records order))
       (idsDiffer order (records order)) o
 
-  pub order-length : length order ≡ recordBytes * records order
-  unfolding records
-  order-length = omega (arith, eqb-true (length order % recordBytes) 0 (told .0))
-
   pub order-records : (0 < records order) × (records order ≤ rowLimit)
   order-records = (ltb-true _ _ (told .1), leb-true _ _ (told .2))
 
-  pub order-record : (k : ℕ) → k < records order → recordFits (recordAt order k) ≡ true
+  order-record : (k : ℕ) → k < records order → recordFits (recordAt order k) ≡ true
   order-record = records-fit order (records order) (told .3)
 
   pub order-id : (k : ℕ) → k < records order → 0 < idAt order k
@@ -100,9 +77,3 @@ module _ (order : List ℕ) (o : orderFits order ≡ true) where
 
   pub order-differ : (j k : ℕ) → j < records order → k < records order → idAt order j ≡ idAt order k → j ≡ k
   order-differ = ids-differ order (records order) (told .4)
-
-pub order-of : (order : List ℕ) → length order ≡ recordBytes * records order → (0 < records order) × (records order ≤ rowLimit)
-    → Fit order (records order) → Differ order (records order) → orderFits order ≡ true
-unfolding orderFits
-order-of order l n f d =
-    rw (eq-eqb (length order % recordBytes) 0 (omega arith), lt-ltb _ _ (n .0), le-leb _ _ (n .1), records-fit-of order (records order) f, ids-differ-of order (records order) d)

@@ -105,7 +105,7 @@ module _ (net : List ℕ) (s : shape net ≡ true) (b : Rams net) (lost : phase 
   abbrev begun : AfterLost net s b
   begun = start net s b lost two
 
-  pub same-count : nodes recovered ≡ nodes net
+  same-count : nodes recovered ≡ nodes net
   same-count = same-nodes (begun .alike)
 
   -- the recovery is no invitation, and makes no entry

@@ -77,7 +77,7 @@ module _ (order net : List ℕ) where
   unfolding loadedRows
   rows-more k x e i p flags q y a = a ∙ rw (e, p, q, add-one)
 
-  pub writable-rows : shape net ≡ true → (k : ℕ) → k ≤ rows net → Writable net (loadedRows order net k)
+  writable-rows : shape net ≡ true → (k : ℕ) → k ≤ rows net → Writable net (loadedRows order net k)
   unfolding loadedRows
   writable-rows s zero l = record { shaped = s; count = refl; long = refl }
   writable-rows s (suc k) l =

@@ -54,12 +54,12 @@ module _ (start : List ℕ) (s : shape start ≡ true) where
     shows-reset k n = still-shows now _ r w (calm-reset now (w .fits) (w .rams) k (nodes-between start now _ (w .nodes) n))
 
   -- ---- a history with as many steps as the run has turns
-  pub record Went (now : List ℕ) (l : List Call) (m : List ring.Call) (r : Ring) : Type 0 where
+  pub record Went (now : List ℕ) (l : List Call) (m : List ring.Telling) (r : Ring) : Type 0 where
     pub told : map (seen start) (answersOf l now) ≡ m
     pub to-nodes : ToNodes start (answersOf l now)
     pub shows : Shows start s (table l now) r
 
-  pub went : (l : List Call) {r t : Ring} {m : List ring.Call} → Runs (on start s) r m t → steps l ≡ length m → (now : List ℕ) → Shows start s now r
+  pub went : (l : List Call) {r t : Ring} {m : List ring.Telling} → Runs (on start s) r m t → steps l ≡ length m → (now : List ℕ) → Shows start s now r
       → Throughout start l now → Went now l m t
   unfolding table steps answersOf Throughout
   went [] stop e now w h = record { told = refl; to-nodes = tt; shows = w }

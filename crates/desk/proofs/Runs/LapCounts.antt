@@ -20,7 +20,7 @@ use Rattle.desk.proofs.Runs.Back as back
 
 module _ (net : List ℕ) (s : shape net ≡ true) (b : Rams net) (lost : phase net ≡ LOST) (two : 2 ≤ nodes net) where
   -- each node on line has an entry, lowest ID first
-  pub lap-ids : map (λ (t : Taker). t .id) (takers net 0 (answers (lapSteps net) net)) ≡ roster (on net s)
+  lap-ids : map (λ (t : Taker). t .id) (takers net 0 (answers (lapSteps net) net)) ≡ roster (on net s)
   lap-ids = takers-seen net _ 0 ∙ ap takes (back.whole net s b lost two) ∙ lap-takes (on net s) (back.h net s b lost two) (back.small net s b lost two) (back.live net s b lost two) (back.top net s b lost two) (back.many net s b lost two) (λ y. y) (λ y o. refl)
 
   pub lap-total : invitations (answers (lapSteps net) net) ≡ 256 + nodes net

@@ -104,7 +104,7 @@ module _ (start : List ℕ) (s : shape start ≡ true) (b : Rams start) (lost : 
   abbrev pub beginning : Ring
   beginning = record { taken = false; holder = highestId; nid = λ y. y }
 
-  pub waits-went : (l : List Call) {t : Ring} {m : List ring.Call} → Runs (on start s) beginning m t → steps l ≡ suc (length m) → (now : List ℕ) → Waits now
+  pub waits-went : (l : List Call) {t : Ring} {m : List ring.Telling} → Runs (on start s) beginning m t → steps l ≡ suc (length m) → (now : List ℕ) → Waits now
       → Throughout start l now → Went start s now l (Spoke ∷ m) t
   unfolding table steps answersOf Throughout
   waits-went [] r e now w h = absurd (omega arith)

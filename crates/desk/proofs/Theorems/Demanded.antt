@@ -44,15 +44,15 @@ unfolding roster
 ids-roster net = ids-calls net 256 0 (omega arith)
 
 -- ---- runs of the ring, end to end
-join : {o : ℕ → Bool} {r s t : Ring} {l m : List ring.Call} → Runs o r l s → Runs o s m t → Runs o r (l ++ m) t
+join : {o : ℕ → Bool} {r s t : Ring} {l m : List ring.Telling} → Runs o r l s → Runs o s m t → Runs o r (l ++ m) t
 join stop q = q
 join (go e p) q = go e (join p q)
 
-times : ℕ → List ring.Call → List ring.Call
+times : ℕ → List ring.Telling → List ring.Telling
 times zero l = []
 times (suc m) l = l ++ times m l
 
-round : {o : ℕ → Bool} {r : Ring} {l : List ring.Call} → Runs o r l r → (m : ℕ) → Runs o r (times m l) r
+round : {o : ℕ → Bool} {r : Ring} {l : List ring.Telling} → Runs o r l r → (m : ℕ) → Runs o r (times m l) r
 unfolding times
 round p zero = stop
 round p (suc m) = join p (round p m)
@@ -67,7 +67,7 @@ module _ (start : List ℕ) (s : shape start ≡ true) (b : Rams start) (lost : 
       settledRing (on start s) (highestId start s b lost two) (back.small start s b lost two) (back.live start s b lost two) (back.top start s b lost two) (back.many start s b lost two) (λ y. y)
       (λ y o. refl)
 
-  abbrev firstWay : List ring.Call
+  abbrev firstWay : List ring.Telling
   firstWay = back.way start s b lost two ++ (Took (highestId start s b lost two) ∷ [])
 
   first : Runs (on start s) (beginning start s b lost two) firstWay home
@@ -90,7 +90,7 @@ module _ (start : List ℕ) (s : shape start ≡ true) (b : Rams start) (lost : 
       (w .phase-is, shape-ids start s _ _ (w .row) (h .0) (w .row-on) (h .1) (w .row-id ∙ sym (back.held-id start s b lost two)))
 
   -- what a run of the ring makes a lap
-  lap-of : (now : List ℕ) (l : List Call) (m : List ring.Call) → Went start s now l m home → takes m ≡ ids → (i : ℕ) → invites m ≡ i
+  lap-of : (now : List ℕ) (l : List Call) (m : List ring.Telling) → Went start s now l m home → takes m ≡ ids → (i : ℕ) → invites m ≡ i
       → LapOf start (answersOf l now) i (table l now)
   lap-of now l m w t i e =
       let h = home-phase (table l now) (w .shows) in record {

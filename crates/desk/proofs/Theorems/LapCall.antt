@@ -13,7 +13,7 @@ use Rattle.desk.specs.Lap.{nodes, after, answers, lapSteps, lapNumber, l
 use Rattle.desk.specs.Demand.{Call, Step, Ready, table, steps, answersOf, Throughout, LapOf}
 use Rattle.desk.specs.Promises.{LapCallIsTheLap}
 use Rattle.desk.proofs.Lapping.LapNumber.{lap-shape, lap-lost, lap-two}
-use Rattle.desk.proofs.Runs.Back.{lap-steps}
+use Rattle.desk.proofs.Runs.Back.{lap-steps, lap-phase, lap-holder}
 use Rattle.desk.proofs.Runs.LapCounts.{lap-entries}
 use Rattle.desk.proofs.Theorems.Demanded.{demand3}
 
@@ -80,6 +80,8 @@ lap-call net bytes room z =
       count = rw f (lap-entries net s b l t);
       made = made;
       left = rw f;
+      taken = rw f (lap-phase net s b l t);
+      first = rw f (lap-holder net s b l t);
       later = rw f (λ h u m e h′ u′ e′.
           rw (table-steps h k net) at
           (demand3 net r (stepCalls k h) (throughout-steps h net k net a u) .1 m (omega (arith, count-steps h k, made, e)) h′ (rw (table-steps h k net) u′) e′));

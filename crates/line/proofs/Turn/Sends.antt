@@ -35,7 +35,7 @@ module _ (net : List ℕ) (s : shape net ≡ true) (h p : ℕ) (l : h < rows net
   shape-stamped : shape (stampedNet net h p) ≡ true
   shape-stamped = shape-done net h s l (Stamps p) tt
 
-  pub rows-stamped : rows (stampedNet net h p) ≡ rows net
+  rows-stamped : rows (stampedNet net h p) ≡ rows net
   rows-stamped = rows-done net h s l (Stamps p) tt
 
   -- the bounds after the stamp

@@ -33,7 +33,7 @@ module _ (k : ℕ) where
   beside-same : (net : List ℕ) → Beside net net k
   beside-same net = record { long = refl; header = λ i h a b. refl; lost = λ p. p; others = λ j n h. refl }
 
-  pub beside-then : (a b c : List ℕ) → Beside a b k → Beside b c k → Beside a c k
+  beside-then : (a b c : List ℕ) → Beside a b k → Beside b c k → Beside a c k
   beside-then a b c p q = record {
     long = q .long ∙ p .long;
     header = λ i h x y. q .header i h x y ∙ p .header i h x y;

@@ -8,12 +8,12 @@ use native.Mathlib.Omega.{arith}
 use lib.Dec.{eqb, ltb}
 use lib.ListN.{length, set, drop, replicate, length-append, length-drop, drop-of-length-le}
 use lib.Seq.{length-take-le, take-at, drop-at, drop-drop}
-use borrow.Author.Tests.{eq-eqb, ne-eqb, eqb-true, ltb-false, le-ltb, not-false}
+use borrow.Author.Tests.{eq-eqb, ne-eqb, eqb-true, ltb-false, le-ltb, not-false, eqb-false}
 use borrow.Rule.Slice.PartMut.{midOf, putMid}
 use Rattle.card.specs.Numbers.{DONE, VALUE, refuse, refuses}
 use Rattle.card.specs.Row.{rowBytes}
 use Rattle.card.specs.Access.{freshRow}
-use Rattle.card.proofs.Words.Bools.{or-right}
+use Rattle.card.proofs.Words.Bools.{or-right, or-left}
 use Rattle.card.proofs.Told.Smallest.{refuse-held, refuse-passed, refuse-stays, none-refuses}
 use Rattle.card.proofs.Rows.WellFormed.{length-fresh}
 use Rattle.table.specs.Numbers.{ROOM}
@@ -38,7 +38,7 @@ module _ (net : List ℕ) (n : ℕ) where
   fresh-asked b r e = rw (refuse-passed DONE VALUE (bad n) b) e
 
 -- ---- the rows
-pub length-freshRows : (n : ℕ) → length (freshRows n) ≡ rowBytes * n
+length-freshRows : (n : ℕ) → length (freshRows n) ≡ rowBytes * n
 unfolding freshRows
 length-freshRows zero = refl
 length-freshRows (suc n) = length-append (freshRows n) freshRow ∙ omega (arith, length-freshRows n, length-fresh)
@@ -53,7 +53,7 @@ next h f t n e q =
     rw (← append-assoc h f (drop (rowBytes * n) t), take-at (h ++ f) (drop (rowBytes * n) t) (rowStart n) w, drop-at (h ++ f) (drop (rowBytes * n) t) (rowStart n) w, drop-drop rowBytes (rowBytes * n) t, m)
     (append-assoc h f (freshRow ++ drop (rowBytes * suc n) t) ∙ ap (λ (x : List ℕ). h ++ x) (sym (append-assoc f freshRow (drop (rowBytes * suc n) t))))
 
-pub eachRow-fresh : (h t : List ℕ) → length h ≡ headerBytes → (n : ℕ) → rowBytes * n ≤ length t
+eachRow-fresh : (h t : List ℕ) → length h ≡ headerBytes → (n : ℕ) → rowBytes * n ≤ length t
     → eachRow (λ k r. freshRow) (h ++ t) n ≡ h ++ (freshRows n ++ drop (rowBytes * n) t)
 unfolding eachRow freshRows
 eachRow-fresh h t e zero l = refl
@@ -81,6 +81,10 @@ module _ (net : List ℕ) (n r : ℕ) (p : r ≡ freshNumber net n) where
     pub fresh-fits : (n ≤ rowLimit) × (length net ≡ rowStart n)
     unfolding freshRefusals
     fresh-fits = (fresh-small n (none VALUE), eqb-true _ _ (not-false _ (none ROOM)))
+
+    pub fresh-some : 0 < n
+    unfolding freshRefusals
+    fresh-some = let e = eqb-false n 0 (or-left (eqb n 0) (ltb rowLimit n) (none VALUE)) in omega arith
 
     pub fresh-done : (x : List ℕ) → x ≡ header n ++ drop headerBytes net → (m : List ℕ) → m ≡ eachRow (λ k r. freshRow) x n
         → (0 ≡ freshNumber net n) × (m ≡ netAfterFresh net n)

@@ -1,6 +1,6 @@
 -- Every call to a row keeps SHAPE, and a fresh network has it.
 -- Assumes nothing.
-use mathlib.Core.Path.{_≡_, refl, _∙_}
+use mathlib.Core.Path.{_≡_, refl, _∙_, sym}
 use mathlib.Core.Bool.{true, false}
 use mathlib.Core.List.{List, [], _∷_}
 use Prim.Native.Nat.{ℕ, _≤_, _<_}
@@ -20,14 +20,14 @@ use Rattle.card.proofs.Rows.WellFormed.{fresh-off}
 use Rattle.card.proofs.Words.Zeros.{zeros-replicate}
 use Rattle.table.specs.Numbers.{DUPLICATE}
 use Rattle.table.specs.Network.{rowLimit, rows, rowAt, regsAt, onLineAt, isNode, nodeOf, shape}
-use Rattle.table.specs.Calls.{placeRefusals, placeNumber, netReadNumber, netAfterRead, duplicate, rowWriteRefusals, netWriteNumber, netAfterWrite, netAfterReset, timerNumber, netAfterTimer, freshNet}
+use Rattle.table.specs.Calls.{placeRefusals, placeNumber, netReadNumber, netAfterRead, duplicate, rowWriteRefusals, netWriteNumber, netAfterWrite, netAfterReset, timerNumber, netAfterTimer, freshNet, freshNumber, netAfterFresh}
 use Rattle.table.proofs.Folds.{clash, seek-at-most}
 use Rattle.table.proofs.Online.Nodes.{other, nodeOf-fails}
 use Rattle.table.proofs.Rows.Headers.{header-of}
 use Rattle.table.proofs.Shaped.Shapes.{shape-row, shape-row-length, shape-of}
 use Rattle.table.proofs.Shaped.Kept.{shape-put}
 use Rattle.table.proofs.Access.Placed.{read-placed, write-placed, timer-placed, row-there}
-use Rattle.table.proofs.Access.Fresh.{length-freshNet, rowAt-fresh}
+use Rattle.table.proofs.Access.Fresh.{length-freshNet, rowAt-fresh, fresh-net, fresh-some, fresh-fits}
 use Rattle.table.proofs.Shaped.KeptRows.{kept-read, reset-off, regs-write}
 use Rattle.table.proofs.Access.ShapeSettled.{shape-burst, shape-settled}
 
@@ -97,3 +97,6 @@ shape-fresh n a b =
     (λ k l. rw (rowAt-fresh n k l) well-fresh)
     (λ j k lj lk p q i. absurd (clash (rw (rowAt-fresh n j lj) at p) fresh-off))
     (λ p. refl) (λ p. absurd (p refl))
+
+pub shape-fresh-call : (net : List ℕ) (n : ℕ) → freshNumber net n ≡ 0 → shape (netAfterFresh net n) ≡ true
+shape-fresh-call net n z = rw (fresh-net net n z) (shape-fresh n (fresh-some net n 0 (sym z) refl) (fresh-fits net n 0 (sym z) refl .0))

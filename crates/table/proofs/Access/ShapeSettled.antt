@@ -29,7 +29,7 @@ set-setRow net k r i v l h =
     set-append-left (take (rowStart k) net) (r ++ drop rowBytes (drop (rowStart k) net)) i v (omega (arith, length-take-le (rowStart k) net h))
     ∙ sym (rw (take-set-lt (rowStart k) net i v c, drop-set-lt (rowStart k) net i v c))
 
-pub turned-setRow : (net : List ℕ) (k : ℕ) (r : List ℕ) (p h : ℕ) → rowStart k ≤ length net → turned (setRow net k r) p h ≡ setRow (turned net p h) k r
+turned-setRow : (net : List ℕ) (k : ℕ) (r : List ℕ) (p h : ℕ) → rowStart k ≤ length net → turned (setRow net k r) p h ≡ setRow (turned net p h) k r
 unfolding turned
 turned-setRow net k r p h l =
     ap (λ (x : List ℕ). set x 5 h) (set-setRow net k r 4 p (lit< tt) l) ∙ set-setRow (set net 4 p) k r 5 h (lit< tt) (simp length-set l)

@@ -24,7 +24,7 @@ module _ (net : List ℕ) (t : headerFits net ≡ true) where
   unfolding headerFits
   at i l = holds (tests net) t i l
 
-  pub header-marks : (getD net 0 0 ≡ getD mark 0 0) × (getD net 1 0 ≡ getD mark 1 0) × (getD net 2 0 ≡ 1)
+  header-marks : (getD net 0 0 ≡ getD mark 0 0) × (getD net 1 0 ≡ getD mark 1 0) × (getD net 2 0 ≡ 1)
   header-marks = (eqb-true _ _ (at 0 (lit< tt)), eqb-true _ _ (at 1 (lit< tt)), eqb-true _ _ (at 2 (lit< tt)))
 
   pub header-rows : (0 < rows net) × (rows net ≤ rowLimit)

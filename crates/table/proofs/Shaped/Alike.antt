@@ -30,9 +30,6 @@ bytes-row net b k l i =
     (λ (t : ltb i rowBytes ≡ false). rw (List·getD-eq-default (rowAt net k) 0 {n = i} (omega (arith, length-rowAt net k l, ltb-false i rowBytes t))) (omega arith))
     (cases (ltb i rowBytes))
 
-pub bytes-ram : (net : List ℕ) → Bytes net → (k : ℕ) → rowStart k + rowBytes ≤ length net → Ram (rowAt net k)
-bytes-ram net b k l i _ = bytes-row net b k l i
-
 -- each row's RAM is of bytes, and its ID is a byte
 abbrev pub Rams : List ℕ → Type 0
 Rams net = (k : ℕ) → k < rows net → Ram (rowAt net k) × (regsAt net k .id < 256)

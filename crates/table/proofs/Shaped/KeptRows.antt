@@ -23,7 +23,7 @@ use Rattle.table.proofs.Shaped.Kept.{Kept}
 
 module _ (r : List ℕ) (l : length r ≡ rowBytes) where
   -- other registers of the same card
-  pub kept-put : (h : Regs) → wellFormed (putRegs r h) ≡ true → card.SameCard (regsOf r) h → Kept r (putRegs r h)
+  kept-put : (h : Regs) → wellFormed (putRegs r h) ≡ true → card.SameCard (regsOf r) h → Kept r (putRegs r h)
   kept-put h w k =
       let e = regs-put r h (omega arith) in record {
         well = w;

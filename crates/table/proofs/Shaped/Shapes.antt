@@ -7,15 +7,15 @@ use mathlib.Core.Logic.{⊎-elim}
 use Prim.Native.Nat.{ℕ, _+_, _≤_, _<_}
 use native.Mathlib.Omega.{arith}
 use lib.Dec.{eqb, leb, ltb}
-use lib.ListN.{length, take, drop}
+use lib.ListN.{length}
 use borrow.Author.Tests.{eqb-true, eqb-false, eq-eqb, ne-eqb, ltb-true, ltb-false, lt-ltb, le-leb, not-true}
-use Rattle.card.specs.Row.{rowBytes, zeros, wellFormed}
+use Rattle.card.specs.Row.{rowBytes, wellFormed}
 use Rattle.card.proofs.Words.Bools.{cases, and-left, and-right, and-five}
 use Rattle.table.specs.Folds.{some}
 use Rattle.table.specs.Network.{headerBytes, rowLimit, rows, phase, holder, LOST, rowStart, rowAt, regsAt, onLineAt, isNode, headerFits, rowsFit, idsDiffer, holderFits, shape}
 use Rattle.table.proofs.Folds.{clash, every-at, every-of, some-fails, some-not}
 use Rattle.table.proofs.Rows.Networks.{length-rowAt}
-use Rattle.table.proofs.Rows.Headers.{header-rows, header-phase, header-zeros, header-length}
+use Rattle.table.proofs.Rows.Headers.{header-rows, header-phase, header-length}
 use Rattle.table.proofs.Online.Nodes.{node-of}
 use Rattle.table.proofs.Online.Seen.{free}
 
@@ -38,7 +38,7 @@ ids-differ net n t j k lj lk p q e =
     (λ b. ⊎-elim (λ a. absurd (ids-below net n t k j (ltb-true _ _ a) lj q p (sym e)))
     (λ a. omega (arith, ltb-false j k b, ltb-false k j a)) (cases (ltb k j))) (cases (ltb j k))
 
-pub ids-of : (net : List ℕ) (n : ℕ) → Differ net n → idsDiffer net n ≡ true
+ids-of : (net : List ℕ) (n : ℕ) → Differ net n → idsDiffer net n ≡ true
 unfolding idsDiffer isNode
 ids-of net n d = every-of (free net) n each
   where
@@ -57,7 +57,7 @@ ids-of net n d = every-of (free net) n each
 abbrev pub OnLineRow : List ℕ → ℕ → Type 0
 OnLineRow net h = (h < rows net) × (onLineAt net h ≡ true)
 
-pub holder-of : (net : List ℕ) → (phase net ≡ LOST → holder net ≡ 0) → ((phase net ≡ LOST → ⊥) → OnLineRow net (holder net)) → holderFits net ≡ true
+holder-of : (net : List ℕ) → (phase net ≡ LOST → holder net ≡ 0) → ((phase net ≡ LOST → ⊥) → OnLineRow net (holder net)) → holderFits net ≡ true
 unfolding holderFits
 holder-of net a b =
     ⊎-elim (λ (t : eqb (phase net) LOST ≡ true). simp (t, eq-eqb _ _ (a (eqb-true _ _ t))))
@@ -84,9 +84,6 @@ module _ (net : List ℕ) (s : shape net ≡ true) where
 
   pub shape-rows : (0 < rows net) × (rows net ≤ rowLimit)
   shape-rows = header-rows net shape-header
-
-  pub shape-zeros : zeros (take 10 (drop 6 net)) ≡ true
-  shape-zeros = header-zeros net shape-header
 
   pub shape-phase : phase net < 3
   shape-phase = header-phase net shape-header
