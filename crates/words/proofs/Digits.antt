@@ -41,7 +41,7 @@ pub worth : (b : ℕ) (r : Bool) → r ≡ digit b → not r ≡ false → (48 �
 worth b r e t = between 48 57 b (sym e ∙ not-false r t)
 
 -- more digits make no smaller value
-pub value-least : (s : List ℕ) (v : ℕ) → v ≤ valueAfter v s
+value-least : (s : List ℕ) (v : ℕ) → v ≤ valueAfter v s
 unfolding valueAfter
 value-least [] v = omega arith
 value-least (b ∷ s) v = omega (arith, value-least s (10 * v + (b - 48)))

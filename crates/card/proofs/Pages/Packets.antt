@@ -4,10 +4,9 @@ use mathlib.Core.Path.{_≡_, refl}
 use mathlib.Core.List.{List}
 use Prim.Native.Nat.{ℕ, _+_, _≤_, _<_}
 use native.Mathlib.Omega.{arith}
-use lib.ListN.{length, getD, set, length-append, length-replicate}
-use lib.Seq.{getD-set-other}
-use Rattle.card.specs.Row.{registerBytes, rowBytes, regsOf}
-use Rattle.card.specs.Packets.{dataAt, pageBytes, pageAt, pageShape, packetAt, stamped}
+use lib.ListN.{length, getD, length-append, length-replicate}
+use Rattle.card.specs.Row.{registerBytes, rowBytes}
+use Rattle.card.specs.Packets.{dataAt, pageBytes, pageAt, pageShape, packetAt}
 use Rattle.card.proofs.Words.Laid.{length-part}
 use Rattle.card.proofs.Pages.Sizes.{page-most, page-fits, count-byte}
 
@@ -26,12 +25,4 @@ module _ (r : List ℕ) (p : ℕ) where
   pub packet-count : Ram r → dataAt (packetAt r p .shape) < 256
   unfolding packetAt pageShape
   packet-count b = count-byte _ _ _ (b (pageAt p + 2) (omega arith)) (b (pageAt p + 3) (omega arith))
-
   -- a page that is stamped: COUNT stands past the byte that is written
-  pub stamped-count : Ram r → dataAt (packetAt (stamped r p) p .shape) < 256
-  unfolding packetAt pageShape stamped
-  stamped-count b =
-      count-byte _ _ _ (past 2 (omega arith)) (past 3 (omega arith))
-    where
-      past : (x : ℕ) → 0 < x → getD (set r (pageAt p) (regsOf r .id)) (pageAt p + x) 0 < 256
-      past x h = rw (getD-set-other r (pageAt p) (pageAt p + x) (regsOf r .id) 0 (λ e. omega arith)) (b (pageAt p + x) (omega arith))

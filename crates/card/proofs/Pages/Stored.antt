@@ -1,9 +1,9 @@
 -- The laws of a page that is stored, stamped and read.
 -- Assumes nothing.
-use mathlib.Core.Path.{_≡_, refl, sym, _∙_, ap}
-use mathlib.Core.Bool.{Bool, true, false, _&&_, _||_}
+use mathlib.Core.Path.{_≡_, sym, _∙_, ap}
+use mathlib.Core.Bool.{Bool, true, false, _&&_}
 use mathlib.Core.Logic.{_⊎_, ⊎-elim}
-use mathlib.Core.List.{List, []}
+use mathlib.Core.List.{List}
 use Prim.Native.Nat.{ℕ, _+_, _-_, _≤_, _<_}
 use native.Mathlib.Omega.{arith}
 use borrow.Author.Tests.{ltb-true, ltb-false, le-ltb}
@@ -14,12 +14,11 @@ use Rattle.card.specs.declared.packets.Shape.{Shape}
 use Rattle.card.specs.declared.packets.Shape.the-variants.{Malformed, Short, Long}
 use Rattle.card.specs.declared.packets.Packet.{Packet}
 use Rattle.card.specs.Words.{pick, clear}
-use Rattle.card.specs.Numbers.{VALUE, DONE, refuse}
-use Rattle.card.specs.Row.{rowBytes, regsOf}
-use Rattle.card.specs.Packets.{shapeOf, dataBytes, dataAt, headBytes, pageBytes, pageAt, pageShape, pageData, dataRefusals, dataNumber, malformed, laid, headOf, dataOf, stored, stamped}
+use Rattle.card.specs.Row.{regsOf}
+use Rattle.card.specs.Packets.{shapeOf, dataBytes, dataAt, headBytes, pageBytes, pageAt, pageShape, pageData, malformed, laid, headOf, dataOf, stored, stamped}
 use Rattle.card.proofs.Words.Bools.{cases}
 use Rattle.card.proofs.Words.Laid.{length-part, length-laid, laid-below, laid-within, laid-above, laid-back}
-use Rattle.card.proofs.Pages.Sizes.{data-end, head-most, head-least, data-least, page-most, page-count, data-fits}
+use Rattle.card.proofs.Pages.Sizes.{data-end, head-most, head-least, page-most}
 
 -- a shape that is not malformed is given by COUNT's bytes alone: the byte at offset 3 only where the head has it
 again : (t v w : Bool) (a b b' : ℕ) (s : Shape) → s ≡ pick t (Short a) (pick v (Long b) Malformed) → malformed s ≡ false
@@ -118,24 +117,6 @@ module _ (r : List ℕ) (p : ℕ) (k : Packet) (f : pageAt p + pageBytes (k .sha
     pub reads-back : p < 4 → (pageShape (stored r p k) p ≡ k .shape) × (pageData (stored r p k) p ≡ dataOf k)
     unfolding pageData
     reads-back h = (shape-back, rw (le-ltb 3 p (omega arith), shape-back) (rw data-length at stands))
-
--- a refusal gives a stretch of length 0, and nothing else does
-pub data-empty : (r : List ℕ) (p : ℕ) → length r ≡ rowBytes → ((i : ℕ) → getD r i 0 < 256)
-    → ((dataNumber r p ≡ 0 → ⊥) → length (pageData r p) ≡ 0) × (length (pageData r p) ≡ 0 → dataNumber r p ≡ 0 → ⊥)
-unfolding dataRefusals pageData refuse
-data-empty r p l b = split (ltb 3 p) refl (pageShape r p) refl
-  where
-    filled : p < 4 → (s : Shape) → pageShape r p ≡ s → malformed s ≡ false → length (take (dataBytes s) (drop (pageAt p + dataAt s) r)) ≡ 0 → ⊥
-    filled h s e m z =
-        omega (arith, length-part (pageAt p + dataAt s) (dataBytes s) r (omega (arith, data-fits r p h s (sym e) b)), data-least s m (page-count r p h s (sym e) b))
-
-    split : (t : Bool) → ltb 3 p ≡ t → (s : Shape) → pageShape r p ≡ s
-        → ((refuse DONE VALUE (t || malformed s) ≡ 0 → ⊥) → length (pick t [] (take (dataBytes s) (drop (pageAt p + dataAt s) r))) ≡ 0)
-        × (length (pick t [] (take (dataBytes s) (drop (pageAt p + dataAt s) r))) ≡ 0 → refuse DONE VALUE (t || malformed s) ≡ 0 → ⊥)
-    split true et s es = (λ n. refl, λ z n. omega arith)
-    split false et Malformed es = (λ n. refl, λ z n. omega arith)
-    split false et (Short c) es = (λ n. absurd (n refl), λ z n. filled (omega (arith, ltb-false)) (Short c) es refl z)
-    split false et (Long c) es = (λ n. absurd (n refl), λ z n. filled (omega (arith, ltb-false)) (Long c) es refl z)
 
 -- writing the row's ID into a page
 pub length-stamped : (r : List ℕ) (p : ℕ) → length (stamped r p) ≡ length r

@@ -1,7 +1,7 @@
 -- What the line may count on where a packet waits or is received: pages, room for the packet, and the ends of both.
 -- Assumes nothing.
 use mathlib.Core.Path.{_≡_, refl, sym, _∙_}
-use mathlib.Core.Bool.{Bool, true, false}
+use mathlib.Core.Bool.{true, false}
 use Prim.Native.Nat.{_+_, _%_, _≤_, _<_}
 use native.Mathlib.Omega.{arith}
 use borrow.Author.Tests.{eqb-true}
@@ -10,12 +10,12 @@ use lib.Dec.{lit<}
 use Rattle.card.specs.declared.regs.Regs.{Regs}
 use Rattle.card.specs.declared.packets.Shape.{Shape}
 use Rattle.card.specs.declared.packets.Shape.the-variants.{Malformed, Short, Long}
-use Rattle.card.specs.Words.{pick, clear, raise, lower}
-use Rattle.card.specs.Flags.{RI, TMA, TA}
+use Rattle.card.specs.Words.{clear}
+use Rattle.card.specs.Flags.{RI}
 use Rattle.card.specs.Row.{rowBytes}
 use Rattle.card.specs.Packets.{pageBytes, pageAt}
-use Rattle.card.specs.Events.{heard, sent, enquired, received, transmitting, receiving, transmitPage, receivePage, storable}
-use Rattle.card.proofs.Words.Masks.{lower-other, raise-other, raise-sets}
+use Rattle.card.specs.Events.{heard, sent, enquired, received, receiving, transmitPage, receivePage, storable}
+use Rattle.card.proofs.Words.Masks.{raise-sets}
 use Rattle.card.proofs.Registers.Fits.{Fit}
 
 module _ (g : Regs) where
@@ -23,20 +23,7 @@ module _ (g : Regs) where
   unfolding transmitPage
   transmit-page-small = omega arith
 
-  pub receive-page-small : receivePage g < 4
-  unfolding receivePage
-  receive-page-small = omega arith
-
-  -- a transmit that ended waits no more, and the receiver is as it was; and the other way round
-  pub sent-ends : (a : Bool) → transmitting (sent g a) ≡ false
-  unfolding transmitting sent
-  sent-ends a = raise-sets TA TA (pick a (raise TMA (g .status)) (lower TMA (g .status))) (lit< tt)
-
-  pub sent-receiving : (a : Bool) → receiving (sent g a) ≡ receiving g
-  unfolding receiving sent
-  sent-receiving true = raise-other RI TA (raise TMA (g .status)) refl ∙ raise-other RI TMA (g .status) refl
-  sent-receiving false = raise-other RI TA (lower TMA (g .status)) refl ∙ lower-other RI TMA (g .status) refl
-
+  -- a receive that ended
   pub received-ends : receiving (received g) ≡ false
   unfolding receiving received
   received-ends = raise-sets RI RI (g .status) (lit< tt)
@@ -44,10 +31,6 @@ module _ (g : Regs) where
   pub received-page : received g .receive ≡ 0
   unfolding received
   received-page = refl
-
-  pub received-transmitting : transmitting (received g) ≡ transmitting g
-  unfolding transmitting received
-  received-transmitting = raise-other TA RI (g .status) refl
 
   -- an enquiry that no packet followed is heard of by its answer, or ends the transmit
   pub enquired-nak : enquired g true ≡ heard g false

@@ -37,10 +37,6 @@ module _ (g : Regs) (token : Bool) where
   unfolding heard
   heard-status = refl
 
-  pub heard-transmitting : transmitting (heard g token) ≡ transmitting g
-  unfolding transmitting
-  heard-transmitting = ap (clear TA) heard-status
-
 -- ---- registers that fit: a transmit that waits, TA = 0 and so TMA = 0; none waits, TA = 1 and so byte 13 zero
 module _ (g : Regs) (f : Fit g) where
   pub waits : transmitting g ≡ true → (has TA (g .status) ≡ false) × (has TMA (g .status) ≡ false)

@@ -60,7 +60,7 @@ module _ (g : Regs) (f : Fit g) where
   fit-pointer a b e = search (f, e)
 
   -- ---- status and byte 13, and status and byte 14, which have to agree
-  pub fit-transmit : (s t : ℕ) → only statusBits s ≡ true → only transmitBits t ≡ true → (clear TA s || eqb t 0) ≡ true
+  fit-transmit : (s t : ℕ) → only statusBits s ≡ true → only transmitBits t ≡ true → (clear TA s || eqb t 0) ≡ true
       → (clear TMA s || has TA s) ≡ true → (not (eqb (g .long) 1) || has TA s || clear 1 t) ≡ true → clear RI s ≡ clear RI (g .status)
       → Fit (with-status s (with-transmit t g))
   fit-transmit s t e z a c d ri =
@@ -68,7 +68,7 @@ module _ (g : Regs) (f : Fit g) where
       let h : (not (eqb (g .long) 1) || has RI s || clear 1 (g .receive)) ≡ true = rw ri (f .even-receive) in
       search (f, e, z, a, b, c, d, h)
 
-  pub fit-receive : (s r : ℕ) → only statusBits s ≡ true → only receiveBits r ≡ true → (clear RI s || eqb r 0) ≡ true
+  fit-receive : (s r : ℕ) → only statusBits s ≡ true → only receiveBits r ≡ true → (clear RI s || eqb r 0) ≡ true
       → (not (eqb (g .long) 1) || has RI s || clear 1 r) ≡ true → clear TA s ≡ clear TA (g .status) → clear TMA s ≡ clear TMA (g .status)
       → Fit (with-status s (with-receive r g))
   fit-receive s r e z b h ta tma =
@@ -78,7 +78,7 @@ module _ (g : Regs) (f : Fit g) where
       search (f, e, z, a, b, c, d, h)
 
   -- flags that no rule speaks of: POR and RECON
-  pub fit-status : (s : ℕ) → only statusBits s ≡ true → clear TA s ≡ clear TA (g .status) → clear RI s ≡ clear RI (g .status)
+  fit-status : (s : ℕ) → only statusBits s ≡ true → clear TA s ≡ clear TA (g .status) → clear RI s ≡ clear RI (g .status)
       → clear TMA s ≡ clear TMA (g .status) → Fit (with-status s g)
   fit-status s e ta ri tma = fit-receive s (g .receive) e (f .receive) (rw ri (f .ri)) (rw ri (f .even-receive)) ta tma
 

@@ -34,7 +34,7 @@ abbrev listed : ℕ → Bool
 listed c = ltb (place legalBytes c) 20 && eqb (getD legalBytes (place legalBytes c) 0) c
 
 -- a byte is listed where it is a command, and nowhere else
-pub listed-is : (c : ℕ) → c < 256 → listed c ≡ pick (illegal (commandOf c)) false true
+listed-is : (c : ℕ) → c < 256 → listed c ≡ pick (illegal (commandOf c)) false true
 unfolding commandOf
 listed-is c h = by-table false listed (λ c. pick (illegal (commandOf c)) false true) 256 refl c h
 

@@ -140,7 +140,7 @@ module _ (r s t : List ℕ) where
   }
 
 -- a packet that can be stored is no longer than the page
-pub storable-bytes : (g : Regs) (s : Shape) → storable g s ≡ true → pageBytes s ≤ 256 * (1 + g .long)
+storable-bytes : (g : Regs) (s : Shape) → storable g s ≡ true → pageBytes s ≤ 256 * (1 + g .long)
 unfolding storable
 storable-bytes g Malformed e = absurd (false≢true e)
 storable-bytes g (Short c) e = omega arith

@@ -66,7 +66,7 @@ put-same r =
 
 -- ---- well-formedness, by parts
 module _ (r : List ℕ) where
-  pub well-mark : wellFormed r ≡ true → marked r ≡ true
+  well-mark : wellFormed r ≡ true → marked r ≡ true
   unfolding wellFormed
   well-mark w = and-left (marked r) (fit (regsOf r)) (and-left (marked r && fit (regsOf r)) (zeros (spare r)) w)
 
@@ -74,11 +74,11 @@ module _ (r : List ℕ) where
   unfolding wellFormed
   well-fit w = and-right (marked r) (fit (regsOf r)) (and-left (marked r && fit (regsOf r)) (zeros (spare r)) w)
 
-  pub well-zeros : wellFormed r ≡ true → zeros (spare r) ≡ true
+  well-zeros : wellFormed r ≡ true → zeros (spare r) ≡ true
   unfolding wellFormed
   well-zeros w = and-right (marked r && fit (regsOf r)) (zeros (spare r)) w
 
-  pub well-of : marked r ≡ true → fit (regsOf r) ≡ true → zeros (spare r) ≡ true → wellFormed r ≡ true
+  well-of : marked r ≡ true → fit (regsOf r) ≡ true → zeros (spare r) ≡ true → wellFormed r ≡ true
   unfolding wellFormed
   well-of m f z = rw (m, f, z)
 

@@ -45,7 +45,7 @@ module _ (r : List ℕ) (l : length r ≡ rowBytes) where
   length-write k v = length-put (ramWritten r k (pointed r) v) _ ∙ length-ram r k (pointed r) v ∙ l
 
   -- a byte of the RAM is written
-  pub well-set : (i v : ℕ) → registerBytes ≤ i → wellFormed (set r i v) ≡ wellFormed r
+  well-set : (i v : ℕ) → registerBytes ≤ i → wellFormed (set r i v) ≡ wellFormed r
   well-set i v h =
       well-same r (set r i v) (length-set r i v) (omega arith) (λ j b. getD-set-other r i j v 0 (λ e. omega arith))
 

@@ -12,7 +12,7 @@ use Rattle.card.specs.Packets.{dataRefusals}
 use Rattle.card.proofs.Words.Bools.{and-left, and-right}
 
 -- the last number of a list, n where it is empty
-abbrev pub lastFrom : ℕ → List Refusal → ℕ
+abbrev lastFrom : ℕ → List Refusal → ℕ
 lastFrom n [] = n
 lastFrom n (k when t ∷ l) = lastFrom k l
 

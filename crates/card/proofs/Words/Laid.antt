@@ -17,7 +17,7 @@ part-length a n = omega arith
 pub length-part : (a n : ℕ) (l : List ℕ) → a + n ≤ length l → length (take n (drop a l)) ≡ n
 length-part a n l h = length-take-le n (drop a l) (rw length-drop (omega arith))
 
-pub drop-replicate : (n m a : ℕ) → drop n (replicate m a) ≡ replicate (m - n) a
+drop-replicate : (n m a : ℕ) → drop n (replicate m a) ≡ replicate (m - n) a
 drop-replicate zero m a = let e : m - 0 ≡ m = omega arith in rw e
 drop-replicate (suc n) zero a = let e : 0 - suc n ≡ 0 = omega arith in rw e
 drop-replicate (suc n) (suc m) a = let e : suc m - suc n ≡ m - n = omega arith in rw e (drop-replicate n m a)

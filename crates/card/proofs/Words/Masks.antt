@@ -45,7 +45,7 @@ and-assoc =
     (at-digits (λ x y z. bitAnd (bitAnd x y) z ≡ bitAnd x (bitAnd y z)) refl refl refl refl refl refl refl refl _ _ _ (digit a) (digit b) (digit c))))
 
 -- a mask of what is set is what each of the two keeps
-pub and-or : (a b c : ℕ) → bitAnd (bitOr a b) c ≡ bitOr (bitAnd a c) (bitAnd b c)
+and-or : (a b c : ℕ) → bitAnd (bitOr a b) c ≡ bitOr (bitAnd a c) (bitAnd b c)
 and-or =
     bin-ind (λ (a : ℕ). (b c : ℕ) → bitAnd (bitOr a b) c ≡ bitOr (bitAnd a c) (bitAnd b c)) (λ b c. refl)
     (λ a ih b c. by-halves _ _
