@@ -1,9 +1,9 @@
 // Document 01, "Packets": the shape of a page, the reader, and the packet read out and stored.
 ghost use mathlib.Core.Path.{_≡_};
-ghost use Prim.Native.Nat.{_+_, _≤_, _<_};
-ghost use lib.ListN.{length};
+ghost use Prim.Native.Nat.{_+_, _-_, _≤_, _<_};
+ghost use lib.ListN.{length, take, drop};
 ghost use Rattle.card.specs.Row.{rowBytes};
-ghost use Rattle.card.specs.Packets.{shapeOf, dataBytes, dataAt, headBytes, pageBytes, pageAt, malformed, pageShape, destination, dataNumber, pageData, packetAt, stored, stamped};
+ghost use Rattle.card.specs.Packets.{shapeOf, dataBytes, dataAt, headBytes, pageBytes, pageAt, malformed, pageShape, destination, dataNumber, pageData, packetAt, laid, stored, stamped};
 use crate::numbers::DONE;
 use crate::numbers::VALUE;
 use crate::numbers::refuse;
@@ -158,6 +158,14 @@ pub fn packet_at(row: &[u8], page: usize) -> Packet
     Packet { shape, bytes }
 }
 
+// The bytes from .. to of a packet go to the same offsets of the page that starts at `at`.
+fn lay(row: &mut [u8], at: usize, bytes: &[u8], from: usize, to: usize)
+    requires { ⌜ (from ≤ to) × ((to ≤ length (now bytes)) × (at + to ≤ length (now row))) ⌝ }
+    ensures { λ _. ⌜ now (row .exit) ≡ laid (at + from) (take (to - from) (drop from (now (bytes .entry)))) (now (row .entry)) ⌝ }
+{
+    bytes::copy(&bytes[from..to], &mut row[at + from..at + to]);
+}
+
 // A packet is stored at the same offsets of a page; the gap between its head and its data is untouched.
 pub fn store_packet(row: &mut [u8], page: usize, packet: Packet)
     requires { ⌜ length (now row) ≡ rowBytes ⌝ }
@@ -167,11 +175,9 @@ pub fn store_packet(row: &mut [u8], page: usize, packet: Packet)
     let shape = packet.shape;
     let bytes = packet.bytes;
     let at = REGISTER_BYTES + 256 * page;
-    let head = shape.head_bytes();
-    bytes::copy(&bytes[0..head], &mut row[at..at + head]);
+    lay(row, at, &bytes, 0, shape.head_bytes());
     let from = shape.data_at();
-    let to = from + shape.data_bytes();
-    bytes::copy(&bytes[from..to], &mut row[at + from..at + to]);
+    lay(row, at, &bytes, from, from + shape.data_bytes());
 }
 
 // The row's own ID is written at byte 0 of a page that is to be sent.

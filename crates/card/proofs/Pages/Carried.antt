@@ -1,18 +1,17 @@
 -- What the code of `packets` cuts out of a row and lays in is what the definitions say.
 -- Assumes nothing.
-use mathlib.Core.Path.{_≡_, _∙_, ap}
+use mathlib.Core.Path.{_≡_, refl, _∙_}
 use mathlib.Core.List.{List, _++_}
-use Prim.Native.Nat.{ℕ, _+_, _-_, _<_}
+use Prim.Native.Nat.{ℕ, _+_, _-_, _≤_, _<_}
 use native.Mathlib.Omega.{arith}
 use lib.ListN.{length, take, drop, replicate, length-take}
-use lib.Seq.{length-take-le}
 use borrow.Rule.Slice.PartMut.{midOf, putMid}
 use Rattle.card.specs.declared.packets.Shape.{Shape}
 use Rattle.card.specs.declared.packets.Packet.{Packet}
 use Rattle.card.specs.Row.{rowBytes}
 use Rattle.card.specs.Packets.{dataBytes, dataAt, headBytes, pageBytes, pageAt, pageShape, packetAt, laid, stored}
 use Rattle.card.proofs.Words.Laid.{part-length, length-part, zeros-left, copy, copied, lay}
-use Rattle.card.proofs.Pages.Sizes.{Sized, page-fits}
+use Rattle.card.proofs.Pages.Sizes.{page-fits}
 
 -- what the code of `packet_at` makes is the packet: z are its zeros, and y is what the copy left of the first n of them
 module _ (r : List ℕ) (p : ℕ) (h : p < 4) (l : length r ≡ rowBytes) (s : Shape) (e : s ≡ pageShape r p) where
@@ -26,21 +25,18 @@ module _ (r : List ℕ) (p : ℕ) (h : p < 4) (l : length r ≡ rowBytes) (s : S
       rw part-length at ey ∙ copied (midOf a n r) (take (n - 0) z) (omega (arith, length-take (n - 0) z)) in
       rw (← e, ← ea, ← en, f, zeros-left n 512 z ez)
 
--- what the code of `store_packet` makes: x is the copied head, and y the copied data
-pub stores : (r : List ℕ) (p : ℕ) (k : Packet) → Sized k → (h d n : ℕ) (x y : List ℕ)
-    → h ≡ headBytes (k .shape) → d ≡ dataAt (k .shape) → n ≡ dataBytes (k .shape)
-    → x ≡ copy (take (h - 0) (k .bytes)) (midOf (pageAt p) (pageAt p + h - pageAt p) r)
-    → (let s : List ℕ = putMid (pageAt p) (pageAt p + h - pageAt p) r x in
-    y ≡ copy (midOf d (d + n - d) (k .bytes)) (midOf (pageAt p + d) (pageAt p + (d + n) - (pageAt p + d)) s)
-    → putMid (pageAt p + d) (pageAt p + (d + n) - (pageAt p + d)) s y ≡ stored r p k)
+-- what the code of `lay` makes: y is what it copied
+pub lays : (r b : List ℕ) (a d e : ℕ) → d ≤ e → e ≤ length b → (y : List ℕ) → y ≡ copy (midOf d (e - d) b) (midOf (a + d) (a + e - (a + d)) r)
+    → putMid (a + d) (a + e - (a + d)) r y ≡ laid (a + d) (midOf d (e - d) b) r
+lays r b a d e l m y ey =
+    lay (a + d) (a + e - (a + d)) (midOf d (e - d) b) r y (midOf d (e - d) b) refl (rw (length-part d (e - d) b (omega arith)) (omega arith)) ey
+
+-- what the code of `store_packet` makes: x has the head, and y the data too
+pub stores : (r : List ℕ) (p : ℕ) (k : Packet) (h d n : ℕ) → h ≡ headBytes (k .shape) → d ≡ dataAt (k .shape) → n ≡ dataBytes (k .shape)
+    → (x : List ℕ) → x ≡ laid (pageAt p + 0) (midOf 0 (h - 0) (k .bytes)) r
+    → (y : List ℕ) → y ≡ laid (pageAt p + d) (midOf d (d + n - d) (k .bytes)) x → y ≡ stored r p k
 unfolding stored
-stores r p k w h d n x y eh ed en ex ey =
-    let z : h - 0 ≡ h = omega arith in
-    let s : List ℕ = putMid (pageAt p) (pageAt p + h - pageAt p) r x in
-    let head : s ≡ laid (pageAt p) (take h (k .bytes)) r =
-    lay (pageAt p) (pageAt p + h - pageAt p) (take (h - 0) (k .bytes)) r x (take h (k .bytes)) (rw z)
-    (rw (part-length, length-take-le h (k .bytes) (omega arith))) ex in
-    rw (← eh, ← ed, ← en)
-    (lay (pageAt p + d) (pageAt p + (d + n) - (pageAt p + d)) (midOf d (d + n - d) (k .bytes)) s y (midOf d n (k .bytes)) (rw part-length)
-    (rw (length-part d n (k .bytes) (omega arith)) (omega arith)) ey
-    ∙ ap (laid (pageAt p + d) (midOf d n (k .bytes))) head)
+stores r p k h d n eh ed en x ex y ey =
+    let a : pageAt p + 0 ≡ pageAt p = omega arith in
+    let b : h - 0 ≡ h = omega arith in
+    ey ∙ rw (part-length d n, ex, a, b, eh, ed, en)

@@ -6,52 +6,33 @@ use Rattle.card.proofs.Pages.Sizes.{packet-known}
 use Rattle.card.proofs.packets.store_packet.Statement.{statement}
 use Rattle.card.proofs.packets.store_packet.Tie as tie
 
-part-copy-end : tie.Need-part-copy-end
-part-copy-end c =
-    let s = c .before .before .before .before in
-    omega (arith, packet-known (s .args .packet) _ (s .good .1 .1 .0))
-
-add-copy : tie.Need-add-copy
-add-copy c =
+lay-requires : tie.Need-lay-requires
+lay-requires c κs =
     let s = c .before .before .before .before .before in
-    omega (arith, packet-known (s .args .packet) _ (s .good .1 .1 .0))
+    let k = packet-known (s .args .packet) _ (s .good .1 .1 .0) in
+    (omega arith, (omega arith, omega arith))
 
-part-copy-end-2 : tie.Need-part-copy-end-2
-part-copy-end-2 c =
-    let s = c .before .before .before .before .before in
-    omega (arith, packet-known (s .args .packet) _ (s .good .1 .1 .0))
-
-add-to : tie.Need-add-to
-add-to c =
-    let s = c .before .before .before .before .before .before .before .before .before .before .before in
-    omega (arith, packet-known (s .args .packet) _ (s .good .1 .1 .0))
-
-part-copy-end-3 : tie.Need-part-copy-end-3
-part-copy-end-3 c =
+add-lay : tie.Need-add-lay
+add-lay c =
     let s = c .before .before .before .before .before .before .before .before .before .before .before .before in
     omega (arith, packet-known (s .args .packet) _ (s .good .1 .1 .0))
 
-add-copy-2 : tie.Need-add-copy-2
-add-copy-2 c =
-    let s = c .before .before .before .before .before .before .before .before .before .before .before .before .before in
-    omega (arith, packet-known (s .args .packet) _ (s .good .1 .1 .0))
-
-add-copy-3 : tie.Need-add-copy-3
-add-copy-3 c =
-    let s = c .before .before .before .before .before .before .before .before .before .before .before .before .before in
-    omega (arith, packet-known (s .args .packet) _ (s .good .1 .1 .0))
-
-part-copy-end-4 : tie.Need-part-copy-end-4
-part-copy-end-4 c =
-    let s = c .before .before .before .before .before .before .before .before .before .before .before .before .before in
-    omega (arith, packet-known (s .args .packet) _ (s .good .1 .1 .0))
+lay-requires-2 : tie.Need-lay-requires-2
+lay-requires-2 c κs =
+    let s = c .before .before .before .before .before .before .before .before .before .before .before .before in
+    let k = packet-known (s .args .packet) _ (s .good .1 .1 .0) in
+    (omega arith, (omega arith, omega arith))
 
 returns : tie.Need-returns
 returns c =
-    let s = c .before .before .before .before .before .before .before .before .before .before .before .before .before .before .before .before .before in
-    stores (s .args .row .now) (s .args .page) (s .args .packet) (packet-known (s .args .packet) _ (s .good .1 .1 .0)) _ _ _ _ _ (c .before .before .before .before .before .before .before .before .before .before .before .before .before .before .head-bytes .ensures) (c .before .before .before .before .before .before .before .data-at .ensures) (c .before .before .before .before .before .before .data-bytes .ensures) (c .before .before .before .before .before .before .before .before .before .before .copy .ensures .1) (c .before .before .copy2 .ensures .1)
+    let d = c .before .before .before in
+    let l = d .before .before .before .before .before .before in
+    let s = l .before .before .before .before .before .before in
+    stores (s .args .row .now) (s .args .page) (s .args .packet) _ _ _ (l .before .head-bytes .ensures) (d .before .before .before .data-at .ensures) (d .data-bytes .ensures)
+    _ (l .lay .ensures) _ (c .before .before .lay2 .ensures)
 
 pub store-packet-spec : {M : Type 1} → statement M
 store-packet-spec =
     tie.close
-    (tie.spec (λ c. search needs) (λ c. search needs) (λ c κs. search needs) (λ c. search needs) (λ c. search needs) part-copy-end add-copy (λ c. search needs) (λ c. search needs) part-copy-end-2 (λ c κs. search needs) (λ c κs. search needs) (λ c κs. search needs) add-to (λ c. search needs) (λ c. search needs) part-copy-end-3 add-copy-2 add-copy-3 (λ c. search needs) (λ c. search needs) part-copy-end-4 (λ c κs. search needs) (λ c. search needs) returns)
+    (tie.spec (λ c. search needs) (λ c. search needs) (λ c. search needs) (λ c κs. search needs) lay-requires
+    (λ c κs. search needs) (λ c. search needs) (λ c κs. search needs) add-lay lay-requires-2 (λ c. search needs) returns)
