@@ -13,56 +13,48 @@ use Rattle.card.specs.Words.{pick}
 use Rattle.card.proofs.Words.Bools.{pick-of}
 use Rattle.words.specs.Words.{word, count, spaced}
 use Rattle.words.specs.Hex.{hexFits}
-use Rattle.bench.specs.declared.requests.Word.{Word}
-use Rattle.bench.specs.declared.requests.Word.the-variants.{Unknown, Size, Poke, Peek, Sum, Check, Fresh, Load, Read, Write, Reset, Timer, Interrupt, Step, Data, Lap, Show, Help}
+use Rattle.prompt.specs.declared.answers.Mistake.{Mistake}
+use Rattle.bench.specs.declared.requests.Call.{Call}
 use Rattle.bench.specs.declared.requests.Request.{Request}
-use Rattle.bench.specs.Requests.{NET, LIST, formOf, argument, made, wordOf, askedOf, asked}
-use Rattle.bench.specs.Turns.{netAfter, sizeAfter, netAfterLine, sizeAfterLine}
+use Rattle.bench.specs.declared.requests.Request.the-variants.{Error, Asks}
+use Rattle.bench.specs.Requests.{NET, LIST, SIZE, LAP, formOf, argument, made, askedOf, asked}
+use Rattle.bench.specs.Turns.{netAfterCall, sizeAfterCall, netAfter, sizeAfter, netAfterLine, sizeAfterLine}
 
 module _ (size : ℕ) (h : size ≤ NET) where
   abbrev Within : Request → Type 0
   Within r = sizeAfter r size ≤ NET
 
-  made-within : (w : Word) (a b c : ℕ) → Within (made w a b c)
-  made-within Unknown a b c = h
-  made-within Size a b c = pick-of Within (ltb NET a) (λ t. h) (λ f. ltb-false NET a f)
-  made-within Poke a b c = h
-  made-within Peek a b c = h
-  made-within Sum a b c = h
-  made-within Check a b c = h
-  made-within Fresh a b c = h
-  made-within Load a b c = h
-  made-within Read a b c = h
-  made-within Write a b c = h
-  made-within Reset a b c = h
-  made-within Timer a b c = h
-  made-within Interrupt a b c = h
-  made-within Step a b c = h
-  made-within Data a b c = h
-  made-within Lap a b c = pick-of Within (ltb LIST a) (λ t. h) (λ f. h)
-  made-within Show a b c = h
-  made-within Help a b c = h
+  made-within : (call a b c : ℕ) → Within (made call a b c)
+  unfolding made
+  made-within call a b c =
+      pick-of Within (eqb call SIZE && ltb NET a) (λ t. h)
+      (λ f. pick-of Within (eqb call LAP && ltb LIST a) (λ t. h)
+      (λ g. pick-of (λ (n : ℕ). n ≤ NET) (eqb call SIZE) (λ (e : eqb call SIZE ≡ true). ltb-false NET a (rw e at f)) (λ e. h)))
 
-  asked-within : (line : List ℕ) → Within (asked line)
+  asked-within : (long : Bool) (line : List ℕ) → Within (asked long line)
   unfolding asked askedOf
-  asked-within line =
-      let w = wordOf (word line 0) in
-      let n = formOf w .numbers in
-      pick-of Within (not (spaced true line)) (λ t. h)
-      (λ f. pick-of Within (eqb (formOf w .most) 0) (λ t. h)
-      (λ f. pick-of Within (ltb (count line) (formOf w .fewest) || ltb (formOf w .most) (count line)) (λ t. h)
-      (λ f. pick-of Within (not (argument line 1 n .ok && argument line 2 n .ok && argument line 3 n .ok)) (λ t. h)
-      (λ f. pick-of Within (not (hexFits (word line (n + 1)))) (λ t. h)
-      (λ f. made-within w (argument line 1 n .value) (argument line 2 n .value) (argument line 3 n .value))))))
+  asked-within long line =
+      let f = formOf (word line 0) in
+      let a = argument line 1 (f .digits) in
+      let b = argument line 2 (f .digits) in
+      let c = argument line 3 (f .digits) in
+      pick-of Within long (λ t. h)
+      (λ t. pick-of Within (not (spaced true line)) (λ t. h)
+      (λ t. pick-of Within (eqb (f .most) 0) (λ t. h)
+      (λ t. pick-of Within (ltb (count line) (f .fewest) || ltb (f .most) (count line)) (λ t. h)
+      (λ t. pick-of Within (not (a .ok && b .ok && c .ok)) (λ t. h)
+      (λ t. pick-of Within (not (hexFits (word line (f .digits)))) (λ t. h)
+      (λ t. made-within (f .call) (a .value) (b .value) (c .value)))))))
 
-  module _ (line net : List ℕ) where
-    pub long-line : (b : Bool) → b ≡ true → ((size ≡ sizeAfterLine b line size) × (size ≤ NET)) × (net ≡ netAfterLine b line size net)
-    unfolding sizeAfterLine netAfterLine
-    long-line b t = ((rw t, h), rw t)
+  module _ (line net : List ℕ) (long : Bool) (r : Request) (e : r ≡ asked long line) where
+    pub mistaken-line : (m : Mistake) → r ≡ Error m → ((size ≡ sizeAfterLine long line size) × (size ≤ NET)) × (net ≡ netAfterLine long line size net)
+    unfolding sizeAfterLine netAfterLine netAfter
+    mistaken-line m f = ((rw (← e, f), h), rw (← e, f))
 
-    pub answered-line : (b : Bool) → b ≡ false → (r : Request) → r ≡ asked line → (m : List ℕ) → m ≡ netAfter r line (midOf 0 (size - 0) net)
-        → (n : ℕ) → n ≡ sizeAfter r size → ((n ≡ sizeAfterLine b line size) × (n ≤ NET)) × (putMid 0 (size - 0) net m ≡ netAfterLine b line size net)
-    unfolding sizeAfterLine netAfterLine
-    answered-line b f r e m g n i =
+    pub asking-line : (q : Call) → r ≡ Asks q → (m : List ℕ) → m ≡ netAfterCall q line (midOf 0 (size - 0) net) → (n : ℕ) → n ≡ sizeAfterCall q size
+        → ((n ≡ sizeAfterLine long line size) × (n ≤ NET)) × (putMid 0 (size - 0) net m ≡ netAfterLine long line size net)
+    unfolding sizeAfterLine netAfterLine netAfter
+    asking-line q f m g n i =
         let z : size - 0 ≡ size = omega arith in
-        ((i ∙ rw (f, e), rw (i, e) (asked-within line)), rw (f, ← e, g, z))
+        let w : sizeAfter r size ≤ NET = rw e (asked-within long line) in
+        ((i ∙ rw (← e, f), rw i (rw f at w)), rw (← e, f, g, z))

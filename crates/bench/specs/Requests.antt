@@ -1,23 +1,21 @@
 -- What a line asks.
 -- Assumes nothing.
 use mathlib.Core.Bool.{Bool, true, false, not, _&&_, _||_}
-use mathlib.Core.List.{List, [], _∷_}
-use Prim.Native.Nat.{ℕ, _+_}
+use mathlib.Core.List.{List, [], _∷_, _++_}
+use Prim.Native.Nat.{ℕ}
 use Prim.Native.Char.{code}
 use Prim.Native.String.{String, [] as none, _∷_ as _and_}
-use lib.Dec.{eqb, ltb}
+use lib.Dec.{eqb, ltb, leb}
 use Rattle.card.specs.Words.{pick}
 use Rattle.words.specs.declared.numbers.Number.{Number}
-use Rattle.words.specs.Words.{word, count, spaced, same}
+use Rattle.words.specs.Words.{NEWLINE, word, row, count, spaced}
 use Rattle.words.specs.Numbers.{numberOf}
 use Rattle.words.specs.Hex.{hexFits}
-use Rattle.bench.specs.declared.requests.Mistake.{Mistake}
-use Rattle.bench.specs.declared.requests.Mistake.the-variants as mistake
-use Rattle.bench.specs.declared.requests.Word.{Word}
-use Rattle.bench.specs.declared.requests.Word.the-variants.{Unknown, Size, Poke, Peek, Sum, Check, Fresh, Load, Read, Write, Reset, Timer, Interrupt, Step, Data, Lap, Show, Help}
+use Rattle.prompt.specs.declared.answers.Mistake.{Mistake}
+use Rattle.prompt.specs.declared.answers.Mistake.the-variants as mistake
 use Rattle.bench.specs.declared.requests.Form.{Form}
 use Rattle.bench.specs.declared.requests.Request.{Request}
-use Rattle.bench.specs.declared.requests.Request.the-variants as request
+use Rattle.bench.specs.declared.requests.Request.the-variants.{Error, Asks}
 
 -- "at most 66,400": the bytes that may be lent
 abbrev pub NET : ℕ
@@ -32,86 +30,70 @@ abbrev pub bytes : String → List ℕ
 bytes none = []
 bytes (c and s) = code c ∷ bytes s
 
--- the words
-unfoldable pub wordOf : List ℕ → Word
-wordOf s =
-    pick (same s (bytes "size")) Size
-    (pick (same s (bytes "poke")) Poke
-    (pick (same s (bytes "peek")) Peek
-    (pick (same s (bytes "sum")) Sum
-    (pick (same s (bytes "check")) Check
-    (pick (same s (bytes "fresh")) Fresh
-    (pick (same s (bytes "load")) Load
-    (pick (same s (bytes "read")) Read
-    (pick (same s (bytes "write")) Write
-    (pick (same s (bytes "reset")) Reset
-    (pick (same s (bytes "timer")) Timer
-    (pick (same s (bytes "interrupt")) Interrupt
-    (pick (same s (bytes "step")) Step
-    (pick (same s (bytes "data")) Data
-    (pick (same s (bytes "lap")) Lap
-    (pick (same s (bytes "show")) Show
-    (pick (same s (bytes "help")) Help Unknown))))))))))))))))
+-- a line of text for each row
+abbrev pub lines : List String → List ℕ
+lines [] = []
+lines (s ∷ ss) = bytes s ++ (NEWLINE ∷ lines ss)
 
--- the numbers that follow each word, and the fewest and the most words of its line; no line has no words
-abbrev pub takes : ℕ → ℕ → ℕ → Form
-takes numbers fewest most = record { numbers = numbers; fewest = fewest; most = most }
+-- the words: the number of the call, the place where hex digits may stand, with numbers before it, and the fewest and the most words of the line
+abbrev pub TABLE : List ℕ
+TABLE =
+    lines
+    ("size 0 2 2 2"
+    ∷ "peek 1 3 3 3"
+    ∷ "sum 2 1 1 1"
+    ∷ "check 3 1 1 1"
+    ∷ "interrupt 4 2 2 2"
+    ∷ "data 5 3 3 3"
+    ∷ "show 6 1 1 1"
+    ∷ "help 7 1 1 1"
+    ∷ "poke 10 2 3 3"
+    ∷ "fresh 11 2 2 2"
+    ∷ "load 12 1 1 2"
+    ∷ "read 20 3 3 3"
+    ∷ "write 21 4 4 4"
+    ∷ "reset 22 2 2 2"
+    ∷ "timer 23 2 2 2"
+    ∷ "step 30 2 2 2"
+    ∷ "lap 31 2 2 2"
+    ∷ [])
 
-abbrev pub formOf : Word → Form
-formOf Unknown = takes 0 0 0
-formOf Size = takes 1 2 2
-formOf Poke = takes 1 3 3
-formOf Peek = takes 2 3 3
-formOf Sum = takes 0 1 1
-formOf Check = takes 0 1 1
-formOf Fresh = takes 1 2 2
-formOf Load = takes 0 1 2
-formOf Read = takes 2 3 3
-formOf Write = takes 3 4 4
-formOf Reset = takes 1 2 2
-formOf Timer = takes 1 2 2
-formOf Interrupt = takes 1 2 2
-formOf Step = takes 1 2 2
-formOf Data = takes 2 3 3
-formOf Lap = takes 1 2 2
-formOf Show = takes 0 1 1
-formOf Help = takes 0 1 1
+-- an unknown word has the form 0 0 0 0; no line has no words
+unfoldable pub formOf : List ℕ → Form
+formOf name = record { call = field 1; digits = field 2; fewest = field 3; most = field 4 }
+  where
+    field : ℕ → ℕ
+    field k = numberOf (word (row TABLE name) k) .value
 
--- number k of the n that follow the word; 0 where there are fewer
+-- the number that is word k; 0 where the numbers end before it
 unfoldable pub argument : List ℕ → ℕ → ℕ → Number
-argument line k n = pick (ltb n k) (record { ok = true; value = 0 }) (numberOf (word line k))
+argument line k end = pick (leb end k) (record { ok = true; value = 0 }) (numberOf (word line k))
 
 -- the request, within the limits of the buffer and the list
-abbrev pub made : Word → ℕ → ℕ → ℕ → Request
-made Unknown a b c = request.Error mistake.Word
-made Size a b c = pick (ltb NET a) (request.Error mistake.Size) (request.Size a)
-made Poke a b c = request.Poke a
-made Peek a b c = request.Peek a b
-made Sum a b c = request.Sum
-made Check a b c = request.Check
-made Fresh a b c = request.Fresh a
-made Load a b c = request.Load
-made Read a b c = request.Read a b
-made Write a b c = request.Write a b c
-made Reset a b c = request.Reset a
-made Timer a b c = request.Timer a
-made Interrupt a b c = request.Interrupt a
-made Step a b c = request.Step a
-made Data a b c = request.Data a b
-made Lap a b c = pick (ltb LIST a) (request.Error mistake.Room) (request.Lap a)
-made Show a b c = request.Show
-made Help a b c = request.Help
+abbrev pub SIZE : ℕ
+SIZE = 0
 
--- the mistakes of a line that begins with the word w, the first of which is told; or its request
-unfoldable pub askedOf : List ℕ → Word → Request
-askedOf line w =
-    pick (eqb (formOf w .most) 0) (request.Error mistake.Word)
-    (pick (ltb (count line) (formOf w .fewest) || ltb (formOf w .most) (count line)) (request.Error mistake.Count)
-    (pick (not (argument line 1 (formOf w .numbers) .ok && argument line 2 (formOf w .numbers) .ok && argument line 3 (formOf w .numbers) .ok))
-    (request.Error mistake.Number)
-    (pick (not (hexFits (word line (formOf w .numbers + 1)))) (request.Error mistake.Hex)
-    (made w (argument line 1 (formOf w .numbers) .value) (argument line 2 (formOf w .numbers) .value)
-    (argument line 3 (formOf w .numbers) .value)))))
+abbrev pub LAP : ℕ
+LAP = 31
 
-unfoldable pub asked : List ℕ → Request
-asked line = pick (not (spaced true line)) (request.Error mistake.Spaces) (askedOf line (wordOf (word line 0)))
+unfoldable pub made : ℕ → ℕ → ℕ → ℕ → Request
+made call a b c =
+    pick (eqb call SIZE && ltb NET a) (Error mistake.Size)
+    (pick (eqb call LAP && ltb LIST a) (Error mistake.Room)
+    (Asks (record { call = call; a = a; b = b; c = c })))
+
+-- the mistakes of a line whose first word has the form f, the first of which is told; or its request
+unfoldable pub askedOf : List ℕ → Form → Request
+askedOf line f =
+    pick (eqb (f .most) 0) (Error mistake.Word)
+    (pick (ltb (count line) (f .fewest) || ltb (f .most) (count line)) (Error mistake.Count)
+    (pick (not (argument line 1 (f .digits) .ok && argument line 2 (f .digits) .ok && argument line 3 (f .digits) .ok)) (Error mistake.Number)
+    (pick (not (hexFits (word line (f .digits)))) (Error mistake.Hex)
+    (made (f .call) (argument line 1 (f .digits) .value) (argument line 2 (f .digits) .value) (argument line 3 (f .digits) .value)))))
+
+-- what a line asks; one that did not fit the buffer is a mistake
+unfoldable pub asked : Bool → List ℕ → Request
+asked long line =
+    pick long (Error mistake.Long)
+    (pick (not (spaced true line)) (Error mistake.Spaces)
+    (askedOf line (formOf (word line 0))))

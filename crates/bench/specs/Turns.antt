@@ -2,7 +2,8 @@
 -- Assumes nothing.
 use mathlib.Core.Bool.{Bool}
 use mathlib.Core.List.{List, _++_}
-use Prim.Native.Nat.{ℕ}
+use Prim.Native.Nat.{ℕ, _/_}
+use lib.Dec.{eqb}
 use lib.ListN.{take, drop}
 use Rattle.card.specs.Words.{pick}
 use Rattle.words.specs.Words.{word}
@@ -11,56 +12,54 @@ use Rattle.table.specs.Calls.{netAfterRead, netAfterReset, netAfterTimer, netAf
 use Rattle.line.specs.Step.{step}
 use Rattle.desk.specs.Load.{netAfterLoad}
 use Rattle.desk.specs.Lap.{netAfterLap}
+use Rattle.bench.specs.declared.requests.Call.{Call}
 use Rattle.bench.specs.declared.requests.Request.{Request}
-use Rattle.bench.specs.declared.requests.Request.the-variants.{Error, Size, Poke, Peek, Sum, Check, Fresh, Load, Read, Write, Reset, Timer, Interrupt, Step, Data, Lap, Show, Help}
+use Rattle.bench.specs.declared.requests.Request.the-variants.{Error, Asks}
 use Rattle.bench.specs.Calls.{poked, netAfterValue}
-use Rattle.bench.specs.Requests.{asked}
+use Rattle.bench.specs.Requests.{SIZE, asked}
 
--- the lent bytes after a line's request
-unfoldable pub netAfter : Request → List ℕ → List ℕ → List ℕ
-netAfter (Error m) line net = net
-netAfter (Size n) line net = net
-netAfter (Poke at) line net = poked net at (unhex (word line 2))
-netAfter (Peek at n) line net = net
-netAfter Sum line net = net
-netAfter Check line net = net
-netAfter (Fresh n) line net = netAfterFresh net n
-netAfter Load line net = netAfterLoad (unhex (word line 1)) net
-netAfter (Read row register) line net = netAfterRead net row register
-netAfter (Write row register value) line net = netAfterValue net row register value
-netAfter (Reset row) line net = netAfterReset net row
-netAfter (Timer row) line net = netAfterTimer net row
-netAfter (Interrupt row) line net = net
-netAfter (Step fault) line net = step net fault .after
-netAfter (Data row page) line net = net
-netAfter (Lap room) line net = netAfterLap net room
-netAfter Show line net = net
-netAfter Help line net = net
+-- the lent bytes after a call: 10 `poke`, 11 `fresh`, 12 `load`
+unfoldable pub netAfterBytes : Call → List ℕ → List ℕ → List ℕ
+netAfterBytes q line net =
+    pick (eqb (q .call) 10) (poked net (q .a) (unhex (word line 2)))
+    (pick (eqb (q .call) 11) (netAfterFresh net (q .a))
+    (netAfterLoad (unhex (word line 1)) net))
 
--- the current length after a request
+-- 20 `read`, 21 `write`, 22 `reset`, 23 `timer`
+unfoldable pub netAfterRow : Call → List ℕ → List ℕ
+netAfterRow q net =
+    pick (eqb (q .call) 20) (netAfterRead net (q .a) (q .b))
+    (pick (eqb (q .call) 21) (netAfterValue net (q .a) (q .b) (q .c))
+    (pick (eqb (q .call) 22) (netAfterReset net (q .a))
+    (netAfterTimer net (q .a))))
+
+-- 30 `step`, 31 `lap`
+unfoldable pub netAfterSteps : Call → List ℕ → List ℕ
+netAfterSteps q net = pick (eqb (q .call) 30) (step net (q .a) .after) (netAfterLap net (q .a))
+
+-- those below 10 look at them only
+unfoldable pub netAfterCall : Call → List ℕ → List ℕ → List ℕ
+netAfterCall q line net =
+    pick (eqb (q .call / 10) 0) net
+    (pick (eqb (q .call / 10) 1) (netAfterBytes q line net)
+    (pick (eqb (q .call / 10) 2) (netAfterRow q net)
+    (netAfterSteps q net)))
+
+-- the current length after a call
+abbrev pub sizeAfterCall : Call → ℕ → ℕ
+sizeAfterCall q size = pick (eqb (q .call) SIZE) (q .a) size
+
+-- a mistake leaves all as it was; bytes beyond the current length keep their values
+unfoldable pub netAfter : Request → List ℕ → ℕ → List ℕ → List ℕ
+netAfter (Error m) line size net = net
+netAfter (Asks q) line size net = netAfterCall q line (take size net) ++ drop size net
+
 abbrev pub sizeAfter : Request → ℕ → ℕ
 sizeAfter (Error m) size = size
-sizeAfter (Size n) size = n
-sizeAfter (Poke a) size = size
-sizeAfter (Peek a b) size = size
-sizeAfter Sum size = size
-sizeAfter Check size = size
-sizeAfter (Fresh a) size = size
-sizeAfter Load size = size
-sizeAfter (Read a b) size = size
-sizeAfter (Write a b c) size = size
-sizeAfter (Reset a) size = size
-sizeAfter (Timer a) size = size
-sizeAfter (Interrupt a) size = size
-sizeAfter (Step a) size = size
-sizeAfter (Data a b) size = size
-sizeAfter (Lap a) size = size
-sizeAfter Show size = size
-sizeAfter Help size = size
+sizeAfter (Asks q) size = sizeAfterCall q size
 
--- a line that did not fit the buffer leaves all as it was; bytes beyond the current length keep their values
 unfoldable pub netAfterLine : Bool → List ℕ → ℕ → List ℕ → List ℕ
-netAfterLine long line size net = pick long net (netAfter (asked line) line (take size net) ++ drop size net)
+netAfterLine long line size net = netAfter (asked long line) line size net
 
 unfoldable pub sizeAfterLine : Bool → List ℕ → ℕ → ℕ
-sizeAfterLine long line size = pick long size (sizeAfter (asked line) size)
+sizeAfterLine long line size = sizeAfter (asked long line) size

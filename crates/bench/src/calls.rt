@@ -6,18 +6,20 @@ ghost use Rattle.words.specs.Hex.{unhex};
 ghost use Rattle.table.specs.Network.{rowLimit};
 ghost use Rattle.desk.specs.Load.{loadNumber, netAfterLoad};
 ghost use Rattle.desk.specs.Lap.{netAfterLap};
-ghost use Rattle.bench.specs.Input.{LINE};
+ghost use Rattle.prompt.specs.Input.{LINE};
 ghost use Rattle.bench.specs.Calls.{shapeNumber, inside, poked, wideNumber, valueNumber, netAfterValue};
-use crate::answers::refused;
 use card::numbers::DONE;
 use card::numbers::REGISTER;
 use card::numbers::VALUE;
 use card::numbers::refuse;
 use desk::laps::Taker;
+use desk::laps::Walked;
 use print::gather::ROOM;
 use print::gather::end;
 use print::gather::number;
 use print::gather::text;
+use prompt::answers::numbered;
+use prompt::answers::tell;
 use table::network::ROWS;
 use table::network::regs_at;
 use table::network::shape;
@@ -88,33 +90,42 @@ pub fn write(net: &mut [u8], row: usize, register: usize, value: usize) -> u8
     table::calls::write(net, row, register, value as u8)
 }
 
-// The ID, the row and the invitations of each of the first `count` takers.
+// The ID, the row and the invitations of a taker.
+fn taker(out: &mut [u8; ROOM], n: usize, taker: Taker) -> usize {
+    let n = number(out, n, taker.id as usize);
+    let n = number(out, n, taker.row as usize);
+    number(out, n, taker.invitations as usize)
+}
+
 fn takers(out: &mut [u8; ROOM], n: usize, list: [Taker; ROWS], count: usize) -> usize
     requires { ⌜ count ≤ rowLimit ⌝ }
 {
     let mut n = n;
     for i in 0..count {
-        let taker = list[i];
-        n = number(out, n, taker.id as usize);
-        n = number(out, n, taker.row as usize);
-        n = number(out, n, taker.invitations as usize);
+        n = taker(out, n, list[i]);
     }
     n
 }
 
 // DONE and the total, and the takers.
+fn lapped(out: &mut [u8; ROOM], walked: Walked)
+    requires { ⌜ walked .n ≤ rowLimit ⌝ }
+{
+    let n = text(out, 0, b"DONE");
+    let n = number(out, n, walked.lapped.total as usize);
+    let list = walked.list;
+    let n = takers(out, n, list, walked.n);
+    end(out, n);
+}
+
 pub fn lap(out: &mut [u8; ROOM], net: &mut [u8], room: usize)
     ensures { λ _. ⌜ now (net .exit) ≡ netAfterLap (now (net .entry)) room ⌝ }
 {
     let walked = desk::laps::walk(net, room);
-    let lapped = walked.lapped;
-    if lapped.number != 0 {
-        refused(out, lapped.number);
+    let refusal = walked.lapped.number;
+    if refusal != 0 {
+        tell(out, numbered(refusal));
         return;
     }
-    let n = text(out, 0, b"DONE");
-    let n = number(out, n, lapped.total as usize);
-    let list = walked.list;
-    let n = takers(out, n, list, walked.n);
-    end(out, n);
+    lapped(out, walked);
 }

@@ -1,28 +1,29 @@
 // The bench at a prompt: a line of standard input is a call, answered at once by one line (`show` and `help`: several,
 // the last DONE).
-mod answers;
 mod calls;
-mod help;
-mod input;
 mod requests;
-mod show;
-mod sums;
 mod turns;
 
 ghost use mathlib.Core.Path.{_≡_};
 ghost use Prim.Native.Nat.{_≤_};
 ghost use lib.ListN.{length};
-ghost use Rattle.bench.specs.Input.{LINE, Held};
+ghost use Rattle.prompt.specs.Input.{LINE, Held};
 ghost use Rattle.bench.specs.Requests.{NET};
-use input::Input;
-use input::LINE;
 use print::gather::ROOM;
+use prompt::input;
+use prompt::input::Input;
+use prompt::input::LINE;
 use turns::NET;
 
 // The line that was taken is answered, with the first `size` bytes lent. It hands back the current length.
-fn answered(net: &mut [u8], size: usize, lines: &[u8], input: Input, out: &mut [u8; ROOM]) -> usize
-    requires { ⌜ (size ≤ NET) × (length (now net) ≡ NET) × (length (now lines) ≡ LINE) ⌝ }
-    requires { ⌜ Held input ⌝ }
+fn answered(
+    net: &mut [u8; NET],
+    size: usize,
+    lines: &[u8],
+    input: Input,
+    out: &mut [u8; ROOM],
+) -> usize
+    requires { ⌜ (size ≤ NET) × (length (now lines) ≡ LINE) × Held input ⌝ }
     ensures { λ r. ⌜ r ≤ NET ⌝ }
 {
     let from = input.from;

@@ -1,202 +1,130 @@
 // What a line asks: its first word, and the numbers and bytes after it.
 ghost use mathlib.Core.Path.{_≡_};
-ghost use Rattle.card.specs.Words.{pick};
-ghost use Rattle.words.specs.Words.{same};
-ghost use Rattle.bench.specs.Requests.{wordOf, takes, formOf, argument, made, askedOf, asked};
+ghost use Rattle.bench.specs.Requests.{formOf, argument, made, askedOf, asked};
 use crate::turns::NET;
-use table::network::wide;
+use prompt::answers::Mistake;
 use words::hex::hex_fits;
 use words::numbers::Number;
-use words::numbers::decimal;
+use words::numbers::number_at;
 use words::words::count;
-use words::words::same;
+use words::words::row;
 use words::words::spaced;
 use words::words::word;
 
 // The entries that may be lent to a lap.
 const LIST: usize = 70;
 
-// What was not understood.
-pub enum Mistake {
-    Long,
-    Spaces,
-    Word,
-    Count,
-    Number,
-    Hex,
-    Size,
-    Outside,
-    Room,
-}
+// The numbers of the calls, but for the last of each ten, `help`, `load` and `timer`, which are what is left there. The
+// tens tell what a call has to do with: it looks at the network, or it changes bytes, a row, or the line.
+pub const SIZE: usize = 0;
 
-pub enum Word {
-    Unknown,
-    Size,
-    Poke,
-    Peek,
-    Sum,
-    Check,
-    Fresh,
-    Load,
-    Read,
-    Write,
-    Reset,
-    Timer,
-    Interrupt,
-    Step,
-    Data,
-    Lap,
-    Show,
-    Help,
-}
+pub const PEEK: usize = 1;
 
-// What follows a word: how many numbers, and how many words the whole line has. For Poke and Load the word after the
-// numbers is of hex digits.
+pub const SUM: usize = 2;
+
+pub const CHECK: usize = 3;
+
+pub const INTERRUPT: usize = 4;
+
+pub const DATA: usize = 5;
+
+pub const SHOW: usize = 6;
+
+pub const POKE: usize = 10;
+
+pub const FRESH: usize = 11;
+
+pub const READ: usize = 20;
+
+pub const WRITE: usize = 21;
+
+pub const RESET: usize = 22;
+
+pub const STEP: usize = 30;
+
+pub const LAP: usize = 31;
+
+// What a word asks and takes: the number of its call, the place in its line where hex digits may stand, with numbers
+// before it, and the fewest and the most words of the line.
 pub struct Form {
-    pub numbers: u8,
+    pub call: usize,
+    pub digits: usize,
     pub fewest: usize,
     pub most: usize,
 }
 
-// A word with the numbers after it. Poke's bytes are word 2 of the line, and Load's are word 1.
+// A call's number, and the numbers after its word.
+pub struct Call {
+    pub call: usize,
+    pub a: usize,
+    pub b: usize,
+    pub c: usize,
+}
+
 pub enum Request {
     Error(Mistake),
-    Size(usize),
-    Poke(usize),
-    Peek(usize, usize),
-    Sum,
-    Check,
-    Fresh(usize),
-    Load,
-    Read(usize, usize),
-    Write(usize, usize, usize),
-    Reset(usize),
-    Timer(usize),
-    Interrupt(usize),
-    Step(usize),
-    Data(usize, usize),
-    Lap(usize),
-    Show,
-    Help,
+    Asks(Call),
 }
 
-// One meaning where the word has this name, and the other where it has not.
-fn named(word: &[u8], name: &[u8], x: Word, y: Word) -> Word
-    ensures { λ r. ⌜ r ≡ pick (same (now (word .entry)) (now (name .entry))) x y ⌝ }
+// The words. An unknown word's form is all zeros, and no line has no words.
+fn form_of(name: &[u8]) -> Form
+    ensures { λ r. ⌜ r ≡ formOf (now (name .entry)) ⌝ }
 {
-    if same(word, name) { x } else { y }
-}
-
-fn word_of(word: &[u8]) -> Word
-    ensures { λ r. ⌜ r ≡ wordOf (now (word .entry)) ⌝ }
-{
-    let found = named(word, b"help", Word::Help, Word::Unknown);
-    let found = named(word, b"show", Word::Show, found);
-    let found = named(word, b"lap", Word::Lap, found);
-    let found = named(word, b"data", Word::Data, found);
-    let found = named(word, b"step", Word::Step, found);
-    let found = named(word, b"interrupt", Word::Interrupt, found);
-    let found = named(word, b"timer", Word::Timer, found);
-    let found = named(word, b"reset", Word::Reset, found);
-    let found = named(word, b"write", Word::Write, found);
-    let found = named(word, b"read", Word::Read, found);
-    let found = named(word, b"load", Word::Load, found);
-    let found = named(word, b"fresh", Word::Fresh, found);
-    let found = named(word, b"check", Word::Check, found);
-    let found = named(word, b"sum", Word::Sum, found);
-    let found = named(word, b"peek", Word::Peek, found);
-    let found = named(word, b"poke", Word::Poke, found);
-    let found = named(word, b"size", Word::Size, found);
-    found
-}
-
-fn takes(numbers: u8, fewest: usize, most: usize) -> Form
-    ensures { λ r. ⌜ r ≡ takes numbers fewest most ⌝ }
-{
+    let form = row(
+        b"size 0 2 2 2\n\
+        peek 1 3 3 3\n\
+        sum 2 1 1 1\n\
+        check 3 1 1 1\n\
+        interrupt 4 2 2 2\n\
+        data 5 3 3 3\n\
+        show 6 1 1 1\n\
+        help 7 1 1 1\n\
+        poke 10 2 3 3\n\
+        fresh 11 2 2 2\n\
+        load 12 1 1 2\n\
+        read 20 3 3 3\n\
+        write 21 4 4 4\n\
+        reset 22 2 2 2\n\
+        timer 23 2 2 2\n\
+        step 30 2 2 2\n\
+        lap 31 2 2 2\n",
+        name,
+    );
     Form {
-        numbers,
-        fewest,
-        most,
+        call: number_at(form, 1).value,
+        digits: number_at(form, 2).value,
+        fewest: number_at(form, 3).value,
+        most: number_at(form, 4).value,
     }
 }
 
-// An unknown word's form is no words at all, which no line has.
-fn form_of(word: Word) -> Form
-    ensures { λ r. ⌜ r ≡ formOf word ⌝ }
+// The number that is word k of the line; 0 where the numbers end before it.
+fn argument(line: &[u8], k: usize, end: usize) -> Number
+    ensures { λ r. ⌜ r ≡ argument (now (line .entry)) k end ⌝ }
 {
-    match word {
-        Word::Unknown => takes(0, 0, 0),
-        Word::Size => takes(1, 2, 2),
-        Word::Poke => takes(1, 3, 3),
-        Word::Peek => takes(2, 3, 3),
-        Word::Sum => takes(0, 1, 1),
-        Word::Check => takes(0, 1, 1),
-        Word::Fresh => takes(1, 2, 2),
-        Word::Load => takes(0, 1, 2),
-        Word::Read => takes(2, 3, 3),
-        Word::Write => takes(3, 4, 4),
-        Word::Reset => takes(1, 2, 2),
-        Word::Timer => takes(1, 2, 2),
-        Word::Interrupt => takes(1, 2, 2),
-        Word::Step => takes(1, 2, 2),
-        Word::Data => takes(2, 3, 3),
-        Word::Lap => takes(1, 2, 2),
-        Word::Show => takes(0, 1, 1),
-        Word::Help => takes(0, 1, 1),
-    }
-}
-
-// Number k of the n that follow the word; 0 where there are fewer.
-fn argument(line: &[u8], k: usize, n: usize) -> Number
-    ensures { λ r. ⌜ r ≡ argument (now (line .entry)) k n ⌝ }
-{
-    if n < k {
+    if end <= k {
         return Number { ok: true, value: 0 };
     }
-    decimal(word(line, k))
+    number_at(line, k)
 }
 
 // A request with its numbers, within the limits of the buffer and the list.
-fn made(word: Word, a: usize, b: usize, c: usize) -> Request
-    ensures { λ r. ⌜ r ≡ made word a b c ⌝ }
+fn made(call: usize, a: usize, b: usize, c: usize) -> Request
+    ensures { λ r. ⌜ r ≡ made call a b c ⌝ }
 {
-    match word {
-        Word::Unknown => Request::Error(Mistake::Word),
-        Word::Size => {
-            if NET < a {
-                return Request::Error(Mistake::Size);
-            }
-            Request::Size(a)
-        }
-        Word::Poke => Request::Poke(a),
-        Word::Peek => Request::Peek(a, b),
-        Word::Sum => Request::Sum,
-        Word::Check => Request::Check,
-        Word::Fresh => Request::Fresh(a),
-        Word::Load => Request::Load,
-        Word::Read => Request::Read(a, b),
-        Word::Write => Request::Write(a, b, c),
-        Word::Reset => Request::Reset(a),
-        Word::Timer => Request::Timer(a),
-        Word::Interrupt => Request::Interrupt(a),
-        Word::Step => Request::Step(a),
-        Word::Data => Request::Data(a, b),
-        Word::Lap => {
-            if LIST < a {
-                return Request::Error(Mistake::Room);
-            }
-            Request::Lap(a)
-        }
-        Word::Show => Request::Show,
-        Word::Help => Request::Help,
+    if (call == SIZE) & (NET < a) {
+        return Request::Error(Mistake::Size);
     }
+    if (call == LAP) & (LIST < a) {
+        return Request::Error(Mistake::Room);
+    }
+    Request::Asks(Call { call, a, b, c })
 }
 
-// What a line that begins with this word asks; the first of the mistakes that it has.
-fn asked_of(line: &[u8], first: Word) -> Request
-    ensures { λ r. ⌜ r ≡ askedOf (now (line .entry)) first ⌝ }
+// What a line whose first word has this form asks; the first of the mistakes that it has.
+fn asked_of(line: &[u8], form: Form) -> Request
+    ensures { λ r. ⌜ r ≡ askedOf (now (line .entry)) form ⌝ }
 {
-    let form = form_of(first);
     if form.most == 0 {
         return Request::Error(Mistake::Word);
     }
@@ -204,25 +132,28 @@ fn asked_of(line: &[u8], first: Word) -> Request
     if (words < form.fewest) | (form.most < words) {
         return Request::Error(Mistake::Count);
     }
-    let n = wide(form.numbers);
-    let a = argument(line, 1, n);
-    let b = argument(line, 2, n);
-    let c = argument(line, 3, n);
+    let a = argument(line, 1, form.digits);
+    let b = argument(line, 2, form.digits);
+    let c = argument(line, 3, form.digits);
     if !(a.ok & b.ok & c.ok) {
         return Request::Error(Mistake::Number);
     }
     // A word that is not there is empty, and fits.
-    if !hex_fits(word(line, n + 1)) {
+    if !hex_fits(word(line, form.digits)) {
         return Request::Error(Mistake::Hex);
     }
-    made(first, a.value, b.value, c.value)
+    made(form.call, a.value, b.value, c.value)
 }
 
-pub fn asked(line: &[u8]) -> Request
-    ensures { λ r. ⌜ r ≡ asked (now (line .entry)) ⌝ }
+// What a line asks, of which `long` says that it did not fit.
+pub fn asked(long: bool, line: &[u8]) -> Request
+    ensures { λ r. ⌜ r ≡ asked long (now (line .entry)) ⌝ }
 {
+    if long {
+        return Request::Error(Mistake::Long);
+    }
     if !spaced(line) {
         return Request::Error(Mistake::Spaces);
     }
-    asked_of(line, word_of(word(line, 0)))
+    asked_of(line, form_of(word(line, 0)))
 }

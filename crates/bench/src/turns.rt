@@ -3,113 +3,148 @@ ghost use mathlib.Core.Path.{_≡_};
 ghost use Prim.Native.Nat.{_≤_};
 ghost use lib.ListN.{length};
 ghost use Rattle.words.specs.Hex.{unhex};
-ghost use Rattle.bench.specs.Input.{LINE};
+ghost use Rattle.prompt.specs.Input.{LINE};
 ghost use Rattle.bench.specs.Calls.{poked};
 ghost use Rattle.bench.specs.Requests.{NET};
-ghost use Rattle.bench.specs.Turns.{netAfter, sizeAfter, netAfterLine, sizeAfterLine};
-use crate::answers;
+ghost use Rattle.bench.specs.Turns.{netAfterBytes, netAfterRow, netAfterSteps, netAfterCall, sizeAfterCall, netAfterLine, sizeAfterLine};
 use crate::calls;
-use crate::requests::Mistake;
+use crate::requests::CHECK;
+use crate::requests::Call;
+use crate::requests::DATA;
+use crate::requests::FRESH;
+use crate::requests::INTERRUPT;
+use crate::requests::PEEK;
+use crate::requests::POKE;
+use crate::requests::READ;
+use crate::requests::RESET;
 use crate::requests::Request;
+use crate::requests::SHOW;
+use crate::requests::SIZE;
+use crate::requests::STEP;
+use crate::requests::SUM;
+use crate::requests::WRITE;
 use crate::requests::asked;
-use crate::show;
 use print::gather::ROOM;
+use prompt::answers;
+use prompt::answers::Mistake;
+use prompt::answers::Told;
+use prompt::answers::tell;
 use words::words::word;
 
 // The bytes that may be lent.
 pub const NET: usize = 66400;
 
-fn check(out: &mut [u8; ROOM], net: &[u8]) {
-    answers::numbered(out, calls::shape_number(net));
-}
-
 fn peek(out: &mut [u8; ROOM], net: &[u8], at: usize, count: usize) {
     if !calls::inside(net, at, count) {
-        answers::error(out, Mistake::Outside);
+        tell(out, answers::error(Mistake::Outside));
         return;
     }
     answers::hex(out, &net[at..at + count]);
 }
 
-fn poke(out: &mut [u8; ROOM], net: &mut [u8], at: usize, digits: &[u8])
+fn poke(net: &mut [u8], at: usize, digits: &[u8]) -> Told
     ensures { λ _. ⌜ now (net .exit) ≡ poked (now (net .entry)) at (unhex (now (digits .entry))) ⌝ }
 {
     if calls::poke(net, at, digits) {
-        answers::done(out);
+        answers::worded(answers::DONE)
     } else {
-        answers::error(out, Mistake::Outside);
+        answers::error(Mistake::Outside)
     }
 }
 
 fn sum(out: &mut [u8; ROOM], net: &[u8]) {
     let n = print::gather::text(out, 0, b"DONE ");
-    let n = print::gather::sixteen(out, n, crate::sums::sum(net));
+    let n = print::gather::sixteen(out, n, prompt::sums::sum(net));
     print::gather::end(out, n);
 }
 
 fn data(out: &mut [u8; ROOM], net: &[u8], row: usize, page: usize) {
     let number = table::calls::data_number(net, row, page);
     if number != 0 {
-        answers::refused(out, number);
+        tell(out, answers::numbered(number));
         return;
     }
     answers::hex(out, table::calls::page_data(net, row, page));
 }
 
-fn answer(out: &mut [u8; ROOM], net: &mut [u8], request: Request, line: &[u8])
-    requires { ⌜ length (now line) ≤ LINE ⌝ }
-    ensures { λ _. ⌜ now (net .exit) ≡ netAfter request (now (line .entry)) (now (net .entry)) ⌝ }
-{
-    match request {
-        Request::Error(mistake) => answers::error(out, mistake),
-        Request::Size(_) => answers::done(out),
-        Request::Poke(at) => poke(out, net, at, word(line, 2)),
-        Request::Peek(at, count) => peek(out, net, at, count),
-        Request::Sum => sum(out, net),
-        Request::Check => check(out, net),
-        Request::Fresh(n) => answers::numbered(out, table::calls::fresh(net, n)),
-        Request::Load => answers::numbered(out, calls::load(net, word(line, 1))),
-        Request::Read(row, register) => {
-            answers::reading(out, table::calls::read(net, row, register))
-        }
-        Request::Write(row, register, value) => {
-            answers::numbered(out, calls::write(net, row, register, value))
-        }
-        Request::Reset(row) => answers::numbered(out, table::calls::reset(net, row)),
-        Request::Timer(row) => answers::numbered(out, table::calls::timer(net, row)),
-        Request::Interrupt(row) => answers::interrupting(out, table::calls::interrupt(net, row)),
-        Request::Step(fault) => answers::step(out, line::step::step(net, fault)),
-        Request::Data(row, page) => data(out, net, row, page),
-        Request::Lap(room) => calls::lap(out, net, room),
-        Request::Show => show::show(out, net),
-        Request::Help => crate::help::help(out),
+fn show(out: &mut [u8; ROOM], net: &[u8]) {
+    let number = calls::shape_number(net);
+    if number != 0 {
+        tell(out, answers::numbered(number));
+        return;
+    }
+    prompt::show::show(out, net);
+}
+
+// The calls that change nothing.
+fn look(out: &mut [u8; ROOM], net: &[u8], call: usize, a: usize, b: usize) {
+    match call {
+        SIZE => tell(out, answers::worded(answers::DONE)),
+        PEEK => peek(out, net, a, b),
+        SUM => sum(out, net),
+        CHECK => tell(out, answers::numbered(calls::shape_number(net))),
+        INTERRUPT => tell(out, answers::interrupting(table::calls::interrupt(net, a))),
+        DATA => data(out, net, a, b),
+        SHOW => show(out, net),
+        _ => prompt::help::help(out),
     }
 }
 
-// The current length after a request.
-fn size_after(request: Request, size: usize) -> usize
-    ensures { λ r. ⌜ r ≡ sizeAfter request size ⌝ }
+// The calls that store bytes: `poke`, `fresh` and `load`.
+fn on_bytes(net: &mut [u8], line: &[u8], q: Call) -> Told
+    requires { ⌜ length (now line) ≤ LINE ⌝ }
+    ensures { λ _. ⌜ now (net .exit) ≡ netAfterBytes q (now (line .entry)) (now (net .entry)) ⌝ }
 {
-    match request {
-        Request::Error(_) => size,
-        Request::Size(n) => n,
-        Request::Poke(_) => size,
-        Request::Peek(_, _) => size,
-        Request::Sum => size,
-        Request::Check => size,
-        Request::Fresh(_) => size,
-        Request::Load => size,
-        Request::Read(_, _) => size,
-        Request::Write(_, _, _) => size,
-        Request::Reset(_) => size,
-        Request::Timer(_) => size,
-        Request::Interrupt(_) => size,
-        Request::Step(_) => size,
-        Request::Data(_, _) => size,
-        Request::Lap(_) => size,
-        Request::Show => size,
-        Request::Help => size,
+    let call = q.call;
+    match call {
+        POKE => poke(net, q.a, word(line, 2)),
+        FRESH => answers::numbered(table::calls::fresh(net, q.a)),
+        _ => answers::numbered(calls::load(net, word(line, 1))),
     }
+}
+
+// The calls on a row: `read`, `write`, `reset` and `timer`.
+fn on_row(net: &mut [u8], q: Call) -> Told
+    ensures { λ _. ⌜ now (net .exit) ≡ netAfterRow q (now (net .entry)) ⌝ }
+{
+    let call = q.call;
+    match call {
+        READ => answers::reading(table::calls::read(net, q.a, q.b)),
+        WRITE => answers::numbered(calls::write(net, q.a, q.b, q.c)),
+        RESET => answers::numbered(table::calls::reset(net, q.a)),
+        _ => answers::numbered(table::calls::timer(net, q.a)),
+    }
+}
+
+// The calls on the line: `step` and `lap`.
+fn on_steps(out: &mut [u8; ROOM], net: &mut [u8], q: Call)
+    ensures { λ _. ⌜ now (net .exit) ≡ netAfterSteps q (now (net .entry)) ⌝ }
+{
+    if q.call == STEP {
+        tell(out, answers::step(line::step::step(net, q.a)));
+    } else {
+        calls::lap(out, net, q.a);
+    }
+}
+
+fn call(out: &mut [u8; ROOM], net: &mut [u8], line: &[u8], q: Call)
+    requires { ⌜ length (now line) ≤ LINE ⌝ }
+    ensures { λ _. ⌜ now (net .exit) ≡ netAfterCall q (now (line .entry)) (now (net .entry)) ⌝ }
+{
+    let tens = q.call / 10;
+    match tens {
+        0 => look(out, net, q.call, q.a, q.b),
+        1 => tell(out, on_bytes(net, line, q)),
+        2 => tell(out, on_row(net, q)),
+        _ => on_steps(out, net, q),
+    }
+}
+
+// The current length after a call.
+fn size_after(q: Call, size: usize) -> usize
+    ensures { λ r. ⌜ r ≡ sizeAfterCall q size ⌝ }
+{
+    if q.call == SIZE { q.a } else { size }
 }
 
 // A line, of which `long` says that it did not fit, is answered, with the first `size` bytes lent. It hands back the
@@ -119,11 +154,15 @@ pub fn turn(net: &mut [u8], size: usize, line: &[u8], long: bool, out: &mut [u8;
     ensures size { λ r. ⌜ (r ≡ sizeAfterLine long (now (line .entry)) size) × (r ≤ NET) ⌝ }
     ensures bytes { λ _. ⌜ now (net .exit) ≡ netAfterLine long (now (line .entry)) size (now (net .entry)) ⌝ }
 {
-    if long {
-        answers::error(out, Mistake::Long);
-        return size;
+    let request = asked(long, line);
+    match request {
+        Request::Error(mistake) => {
+            tell(out, answers::error(mistake));
+            size
+        }
+        Request::Asks(q) => {
+            call(out, &mut net[0..size], line, q);
+            size_after(q, size)
+        }
     }
-    let request = asked(line);
-    answer(out, &mut net[0..size], request, line);
-    size_after(request, size)
 }

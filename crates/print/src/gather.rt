@@ -6,7 +6,7 @@ pub const ROOM: usize = 4096;
 
 const DIGITS: [u8; 16] = *b"0123456789ABCDEF";
 
-pub fn put(out: &mut [u8; ROOM], n: usize, b: u8) -> usize {
+fn put(out: &mut [u8; ROOM], n: usize, b: u8) -> usize {
     if n < ROOM {
         out[n] = b;
         return n + 1;
@@ -42,12 +42,21 @@ fn byte(out: &mut [u8; ROOM], n: usize, b: u8) -> usize {
     put(out, n, DIGITS[(b % 16) as usize])
 }
 
-pub fn bytes(out: &mut [u8; ROOM], n: usize, s: &[u8]) -> usize {
+fn bytes(out: &mut [u8; ROOM], n: usize, s: &[u8]) -> usize {
     let mut to = n;
     for i in 0..s.len() {
         to = byte(out, to, s[i]);
     }
     to
+}
+
+// Bytes after a space; nothing where there are none.
+pub fn spaced(out: &mut [u8; ROOM], n: usize, s: &[u8]) -> usize {
+    if s.len() == 0 {
+        return n;
+    }
+    let n = put(out, n, b' ');
+    bytes(out, n, s)
 }
 
 // A number as sixteen digits in hex.
@@ -75,7 +84,7 @@ pub fn end(out: &mut [u8; ROOM], n: usize) {
 }
 
 // A number at the right of a column of four.
-pub fn column(out: &mut [u8; ROOM], n: usize, number: usize) -> usize {
+pub(crate) fn column(out: &mut [u8; ROOM], n: usize, number: usize) -> usize {
     let mut to = n;
     if number < 1000 {
         to = put(out, to, b' ');
@@ -87,4 +96,11 @@ pub fn column(out: &mut [u8; ROOM], n: usize, number: usize) -> usize {
         to = put(out, to, b' ');
     }
     decimal(out, to, number)
+}
+
+// Three numbers, each at the right of its column.
+pub fn columns(out: &mut [u8; ROOM], n: usize, a: usize, b: usize, c: usize) -> usize {
+    let n = column(out, n, a);
+    let n = column(out, n, b);
+    column(out, n, c)
 }

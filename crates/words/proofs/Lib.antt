@@ -2,3 +2,4 @@ pub mod Bools
 pub mod Lines
 pub mod Digits
 pub mod Pairs
+pub mod Tables

@@ -1,4 +1,4 @@
--- The words of a line, byte by byte.
+-- The parts of a text, byte by byte.
 -- Assumes nothing.
 use mathlib.Core.Path.{_≡_, refl, sym, ap, _∙_}
 use mathlib.Core.Bool.{Bool, true, false, not, _&&_}
@@ -12,13 +12,13 @@ use lib.ListN.{length, getD, take, drop, length-take, length-drop, drop-of-lengt
 use lib.Seq.{drop-cons, drop-drop}
 use borrow.Author.Tests.{eq-eqb, ne-eqb}
 use Rattle.words.proofs.Bools.{and-false}
-use Rattle.words.specs.Words.{pick, SPACE, firstWord, afterWord, word, count, spaced, same}
+use Rattle.words.specs.Words.{pick, SPACE, upTo, past, part, count, spaced, same}
 
 -- ---- past the end
 module _ (s : List ℕ) (i : ℕ) (h : length s ≤ i) where
-  pub first-end : length (firstWord (drop i s)) ≡ 0
-  unfolding firstWord
-  first-end = rw (drop-of-length-le s h)
+  pub first-end : (stop : ℕ) → length (upTo stop (drop i s)) ≡ 0
+  unfolding upTo
+  first-end stop = rw (drop-of-length-le s h)
 
   pub count-end : count (drop i s) ≡ 1
   unfolding count
@@ -30,13 +30,13 @@ module _ (s : List ℕ) (i : ℕ) (h : length s ≤ i) where
 
 -- ---- at a byte
 module _ (s : List ℕ) (i : ℕ) (h : i < length s) where
-  pub first-space : getD s i 0 ≡ SPACE → length (firstWord (drop i s)) ≡ 0
-  unfolding firstWord
-  first-space e = rw (drop-cons s i 0 h, eq-eqb _ _ e)
+  pub first-stop : (stop : ℕ) → getD s i 0 ≡ stop → length (upTo stop (drop i s)) ≡ 0
+  unfolding upTo
+  first-stop stop e = rw (drop-cons s i 0 h, eq-eqb _ _ e)
 
-  pub first-more : (getD s i 0 ≡ SPACE → ⊥) → length (firstWord (drop i s)) ≡ suc (length (firstWord (drop (i + 1) s)))
-  unfolding firstWord
-  first-more n = rw (drop-cons s i 0 h, ne-eqb _ _ n, add-one)
+  pub first-more : (stop : ℕ) → (getD s i 0 ≡ stop → ⊥) → length (upTo stop (drop i s)) ≡ suc (length (upTo stop (drop (i + 1) s)))
+  unfolding upTo
+  first-more stop n = rw (drop-cons s i 0 h, ne-eqb _ _ n, add-one)
 
   pub count-space : getD s i 0 ≡ SPACE → count (drop i s) ≡ suc (count (drop (i + 1) s))
   unfolding count
@@ -56,57 +56,61 @@ module _ (s : List ℕ) (i : ℕ) (h : i < length s) where
   pub spaced-more : (gap : Bool) → (gap && eqb (getD s i 0) SPACE) ≡ false → spaced gap (drop i s) ≡ spaced (eqb (getD s i 0) SPACE) (drop (i + 1) s)
   spaced-more gap t = spaced-at gap ∙ ap (λ (b : Bool). not b && spaced (eqb (getD s i 0) SPACE) (drop (i + 1) s)) t
 
--- ---- word k
-module _ (b : ℕ) (s : List ℕ) where
-  first-cons : (t : Bool) → firstWord s ≡ take (length (firstWord s)) s
-      → pick t [] (b ∷ firstWord s) ≡ take (length (pick t [] (b ∷ firstWord s))) (b ∷ s)
-  first-cons true e = refl
-  first-cons false e = ap (λ (l : List ℕ). b ∷ l) e
+-- ---- part k
+module _ (stop : ℕ) where
+  module _ (b : ℕ) (s : List ℕ) where
+    first-cons : (t : Bool) → upTo stop s ≡ take (length (upTo stop s)) s
+        → pick t [] (b ∷ upTo stop s) ≡ take (length (pick t [] (b ∷ upTo stop s))) (b ∷ s)
+    first-cons true e = refl
+    first-cons false e = ap (λ (l : List ℕ). b ∷ l) e
 
-  after-cons : (t : Bool) → afterWord s ≡ drop (suc (length (firstWord s))) s
-      → pick t s (afterWord s) ≡ drop (suc (length (pick t [] (b ∷ firstWord s)))) (b ∷ s)
-  after-cons true e = refl
-  after-cons false e = e
+    past-cons : (t : Bool) → past stop s ≡ drop (suc (length (upTo stop s))) s
+        → pick t s (past stop s) ≡ drop (suc (length (pick t [] (b ∷ upTo stop s)))) (b ∷ s)
+    past-cons true e = refl
+    past-cons false e = e
 
-first-is : (s : List ℕ) → firstWord s ≡ take (length (firstWord s)) s
-unfolding firstWord
-first-is [] = refl
-first-is (b ∷ s) = first-cons b s (eqb b SPACE) (first-is s)
+  first-is : (s : List ℕ) → upTo stop s ≡ take (length (upTo stop s)) s
+  unfolding upTo
+  first-is [] = refl
+  first-is (b ∷ s) = first-cons b s (eqb b stop) (first-is s)
 
-after-is : (s : List ℕ) → afterWord s ≡ drop (suc (length (firstWord s))) s
-unfolding firstWord afterWord
-after-is [] = refl
-after-is (b ∷ s) = after-cons b s (eqb b SPACE) (after-is s)
+  past-is : (s : List ℕ) → past stop s ≡ drop (suc (length (upTo stop s))) s
+  unfolding upTo past
+  past-is [] = refl
+  past-is (b ∷ s) = past-cons b s (eqb b stop) (past-is s)
 
-word-nil : (k : ℕ) → word [] k ≡ []
-unfolding word firstWord afterWord
-word-nil zero = refl
-word-nil (suc k) = word-nil k
+  part-nil : (k : ℕ) → part stop [] k ≡ []
+  unfolding part upTo past
+  part-nil zero = refl
+  part-nil (suc k) = part-nil k
 
-word-next : (s : List ℕ) (k : ℕ) → 0 < k → word s k ≡ word (afterWord s) (k - 1)
-unfolding word
-word-next s zero h = absurd (not-suc-le-zero h)
-word-next s (suc k) h = simp unary-clauses refl
+  part-next : (s : List ℕ) (k : ℕ) → 0 < k → part stop s k ≡ part stop (past stop s) (k - 1)
+  unfolding part
+  part-next s zero h = absurd (not-suc-le-zero h)
+  part-next s (suc k) h = simp unary-clauses refl
 
-module _ (s : List ℕ) (from end : ℕ) (h : from ≤ length s) (e : end ≡ from + length (firstWord (drop from s))) where
-  pub word-here : take (end - from) (drop from s) ≡ word (drop from s) 0
-  unfolding word
-  word-here =
-      let d : end - from ≡ length (firstWord (drop from s)) = omega arith in
-      rw d (sym (first-is (drop from s)))
+  module _ (s : List ℕ) (from end : ℕ) (h : from ≤ length s) (e : end ≡ from + length (upTo stop (drop from s))) where
+    pub first-here : take (end - from) (drop from s) ≡ upTo stop (drop from s)
+    first-here =
+        let d : end - from ≡ length (upTo stop (drop from s)) = omega arith in
+        rw d (sym (first-is (drop from s)))
 
-  after-here : afterWord (drop from s) ≡ drop (end + 1) s
-  after-here =
-      let d : from + suc (length (firstWord (drop from s))) ≡ end + 1 = omega arith in
-      after-is (drop from s) ∙ drop-drop (suc (length (firstWord (drop from s)))) from s ∙ ap (λ (n : ℕ). drop n s) d
+    pub part-here : take (end - from) (drop from s) ≡ part stop (drop from s) 0
+    unfolding part
+    part-here = first-here
 
-  pub word-past : (k : ℕ) → 0 < k → word (drop from s) k ≡ word (drop (end + 1) s) (k - 1)
-  word-past k p = word-next (drop from s) k p ∙ ap (λ (l : List ℕ). word l (k - 1)) after-here
+    pub past-here : past stop (drop from s) ≡ drop (end + 1) s
+    past-here =
+        let d : from + suc (length (upTo stop (drop from s))) ≡ end + 1 = omega arith in
+        past-is (drop from s) ∙ drop-drop (suc (length (upTo stop (drop from s)))) from s ∙ ap (λ (n : ℕ). drop n s) d
 
-  pub word-missing : (k : ℕ) → 0 < k → end ≡ length s → word (drop from s) k ≡ []
-  word-missing k p f =
-      let l : length s ≤ end + 1 = omega arith in
-      word-past k p ∙ rw (drop-of-length-le s l) (word-nil (k - 1))
+    pub part-past : (k : ℕ) → 0 < k → part stop (drop from s) k ≡ part stop (drop (end + 1) s) (k - 1)
+    part-past k p = part-next (drop from s) k p ∙ ap (λ (l : List ℕ). part stop l (k - 1)) past-here
+
+    pub part-missing : (k : ℕ) → 0 < k → end ≡ length s → part stop (drop from s) k ≡ []
+    part-missing k p f =
+        let l : length s ≤ end + 1 = omega arith in
+        part-past k p ∙ rw (drop-of-length-le s l) (part-nil (k - 1))
 
 -- ---- two words
 pub same-lengths : (s t : List ℕ) → (length s ≡ length t → ⊥) → same s t ≡ false
@@ -131,14 +135,15 @@ module _ (s t : List ℕ) (i : ℕ) where
   unfolding same
   same-more h g e = rw (drop-cons s i 0 h, drop-cons t i 0 g, eq-eqb _ _ e, add-one)
 
--- ---- a word is no longer than its line
-first-length : (s : List ℕ) → length (firstWord s) ≤ length s
-first-length s = rw (first-is s) (omega (arith, length-take (length (firstWord s)) s))
+-- ---- a part is no longer than its text
+module _ (stop : ℕ) where
+  first-length : (s : List ℕ) → length (upTo stop s) ≤ length s
+  first-length s = rw (first-is stop s) (omega (arith, length-take (length (upTo stop s)) s))
 
-after-length : (s : List ℕ) → length (afterWord s) ≤ length s
-after-length s = rw (after-is s) (omega (arith, length-drop (suc (length (firstWord s))) s))
+  past-length : (s : List ℕ) → length (past stop s) ≤ length s
+  past-length s = rw (past-is stop s) (omega (arith, length-drop (suc (length (upTo stop s))) s))
 
-pub word-length : (s : List ℕ) (k : ℕ) → length (word s k) ≤ length s
-unfolding word
-word-length s zero = first-length s
-word-length s (suc k) = omega (arith, word-length (afterWord s) k, after-length s)
+  pub part-length : (s : List ℕ) (k : ℕ) → length (part stop s k) ≤ length s
+  unfolding part
+  part-length s zero = first-length s
+  part-length s (suc k) = omega (arith, part-length (past stop s) k, past-length s)

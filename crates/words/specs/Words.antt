@@ -4,6 +4,7 @@ use mathlib.Core.Bool.{Bool, true, false, not, _&&_}
 use mathlib.Core.List.{List, [], _∷_}
 use Prim.Native.Nat.{ℕ, zero, suc}
 use lib.Dec.{eqb}
+use lib.ListN.{length}
 
 abbrev pub pick : {A : Type 0} → Bool → A → A → A
 pick true a b = a
@@ -12,19 +13,25 @@ pick false a b = b
 abbrev pub SPACE : ℕ
 SPACE = 0x20
 
--- the bytes up to the first space, and those after it
-unfoldable pub firstWord : List ℕ → List ℕ
-firstWord [] = []
-firstWord (b ∷ s) = pick (eqb b SPACE) [] (b ∷ firstWord s)
+abbrev pub NEWLINE : ℕ
+NEWLINE = 0x0a
 
-unfoldable pub afterWord : List ℕ → List ℕ
-afterWord [] = []
-afterWord (b ∷ s) = pick (eqb b SPACE) s (afterWord s)
+-- the bytes up to the first `stop`, and those after it
+unfoldable pub upTo : ℕ → List ℕ → List ℕ
+upTo stop [] = []
+upTo stop (b ∷ s) = pick (eqb b stop) [] (b ∷ upTo stop s)
 
--- word k, from 0; nothing where there is no such word
-unfoldable pub word : List ℕ → ℕ → List ℕ
-word s zero = firstWord s
-word s (suc k) = word (afterWord s) k
+unfoldable pub past : ℕ → List ℕ → List ℕ
+past stop [] = []
+past stop (b ∷ s) = pick (eqb b stop) s (past stop s)
+
+-- part k, from 0, of those that `stop` separates; nothing where there is no such part
+unfoldable pub part : ℕ → List ℕ → ℕ → List ℕ
+part stop s zero = upTo stop s
+part stop s (suc k) = part stop (past stop s) k
+
+abbrev pub word : List ℕ → ℕ → List ℕ
+word = part SPACE
 
 -- one word more than there are spaces
 unfoldable pub count : List ℕ → ℕ
@@ -42,3 +49,13 @@ same [] [] = true
 same [] (b ∷ t) = false
 same (a ∷ s) [] = false
 same (a ∷ s) (b ∷ t) = eqb a b && same s t
+
+-- the first of the n lines of a table that has the name as its first word; nothing where none has
+unfoldable pub rowOf : ℕ → List ℕ → List ℕ → List ℕ
+rowOf zero table name = []
+rowOf (suc n) table name =
+    pick (same (word (upTo NEWLINE table) 0) name) (upTo NEWLINE table) (rowOf n (past NEWLINE table) name)
+
+-- a table has no more lines than bytes
+unfoldable pub row : List ℕ → List ℕ → List ℕ
+row table name = rowOf (length table) table name

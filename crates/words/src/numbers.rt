@@ -1,6 +1,8 @@
 // Decimal numbers.
 ghost use mathlib.Core.Path.{_≡_};
+ghost use Rattle.words.specs.Words.{word};
 ghost use Rattle.words.specs.Numbers.{digit, numberOf};
+use crate::words::word;
 
 // The greatest number that a word may spell, 2^32 - 1.
 const MOST: usize = 4294967295;
@@ -42,4 +44,11 @@ pub fn decimal(word: &[u8]) -> Number
         i += 1;
     }
     Number { ok: true, value }
+}
+
+// The number that word k of the line spells.
+pub fn number_at(line: &[u8], k: usize) -> Number
+    ensures { λ r. ⌜ r ≡ numberOf (word (now (line .entry)) k) ⌝ }
+{
+    decimal(word(line, k))
 }

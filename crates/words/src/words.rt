@@ -3,19 +3,21 @@ ghost use mathlib.Core.Path.{_≡_};
 ghost use mathlib.Core.Bool.{true};
 ghost use Prim.Native.Nat.{_+_, _≤_};
 ghost use lib.ListN.{length, drop};
-ghost use Rattle.words.specs.Words.{firstWord, word, count, spaced, same};
+ghost use Rattle.words.specs.Words.{upTo, part, word, row, count, spaced, same};
 
 const SPACE: u8 = b' ';
 
-// The end of the word that starts at `from`: the next space, or the line's end.
-fn word_end(line: &[u8], from: usize) -> usize
-    requires { ⌜ from ≤ length (now line) ⌝ }
-    ensures { λ r. ⌜ r ≡ from + length (firstWord (drop from (now (line .entry)))) ⌝ }
-    ensures { λ r. ⌜ r ≤ length (now (line .entry)) ⌝ }
+const NEWLINE: u8 = b'\n';
+
+// The end of the part that starts at `from`: the next `stop`, or the text's end.
+fn part_end(text: &[u8], stop: u8, from: usize) -> usize
+    requires { ⌜ from ≤ length (now text) ⌝ }
+    ensures { λ r. ⌜ r ≡ from + length (upTo stop (drop from (now (text .entry)))) ⌝ }
+    ensures { λ r. ⌜ r ≤ length (now (text .entry)) ⌝ }
 {
     let mut i = from;
-    while i < line.len() {
-        if line[i] == SPACE {
+    while i < text.len() {
+        if text[i] == stop {
             return i;
         }
         i += 1;
@@ -23,22 +25,28 @@ fn word_end(line: &[u8], from: usize) -> usize
     i
 }
 
-// Word k of the line, from 0; nothing where there is no such word.
-pub fn word(line: &[u8], k: usize) -> &[u8]
-    ensures { λ r. ⌜ now r ≡ word (now (line .entry)) k ⌝ }
+// Part k of the text, from 0, of those that `stop` separates; nothing where there is no such part.
+pub fn part(text: &[u8], stop: u8, k: usize) -> &[u8]
+    ensures { λ r. ⌜ now r ≡ part stop (now (text .entry)) k ⌝ }
 {
     let mut from = 0;
     let mut left = k;
     while 0 < left {
-        let end = word_end(line, from);
-        if end == line.len() {
-            return &line[0..0];
+        let end = part_end(text, stop, from);
+        if end == text.len() {
+            return &text[0..0];
         }
         from = end + 1;
         left -= 1;
     }
-    let end = word_end(line, from);
-    &line[from..end]
+    let end = part_end(text, stop, from);
+    &text[from..end]
+}
+
+pub fn word(line: &[u8], k: usize) -> &[u8]
+    ensures { λ r. ⌜ now r ≡ word (now (line .entry)) k ⌝ }
+{
+    part(line, SPACE, k)
 }
 
 // How many words: one more than the spaces.
@@ -88,4 +96,25 @@ pub fn same(word: &[u8], name: &[u8]) -> bool
         i += 1;
     }
     true
+}
+
+// The first line of the table that has the name as its first word; nothing where none has.
+pub fn row<'a>(table: &'a [u8], name: &'a [u8]) -> &'a [u8]
+    ensures { λ r. ⌜ now r ≡ row (now (table .entry)) (now (name .entry)) ⌝ }
+{
+    let mut from = 0;
+    let mut left = table.len();
+    while 0 < left {
+        let end = part_end(table, NEWLINE, from);
+        let line = &table[from..end];
+        if same(word(line, 0), name) {
+            return line;
+        }
+        if end == table.len() {
+            return &table[0..0];
+        }
+        from = end + 1;
+        left -= 1;
+    }
+    &table[0..0]
 }

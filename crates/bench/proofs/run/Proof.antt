@@ -1,7 +1,7 @@
 -- `bench::run` meets its contract. The loop's invariant: the current length is within the buffer, and so is the input.
 -- Assumes nothing.
 use Prim.Native.Nat.{_≤_}
-use Rattle.bench.specs.Input.{Held}
+use Rattle.prompt.specs.Input.{Held}
 use Rattle.bench.specs.Requests.{NET}
 use borrow.Author.Needs.{needs}
 use Rattle.bench.proofs.run.Statement.{statement}

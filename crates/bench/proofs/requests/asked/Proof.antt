@@ -1,6 +1,5 @@
 -- `bench::requests::asked` meets its contract.
 -- Assumes nothing.
-use mathlib.Core.Path.{sym, _∙_}
 use Rattle.bench.specs.Requests.{asked}
 use borrow.Author.Needs.{needs}
 use Rattle.bench.proofs.requests.asked.Statement.{statement}
@@ -8,15 +7,18 @@ use Rattle.bench.proofs.requests.asked.Tie as tie
 
 returns : tie.Need-returns
 unfolding asked
-returns c = rw (← c .before .spaced .ensures, c .if1 .taken)
+returns c = rw (c .if1 .taken)
 
 returns-2 : tie.Need-returns-2
 unfolding asked
-returns-2 c =
+returns-2 c = rw (c .before .before .if1 .left, ← c .before .spaced .ensures, c .if2 .taken)
+
+returns-3 : tie.Need-returns-3
+unfolding asked
+returns-3 c =
     let w = c .before .before in
-    rw (← w .before .before .spaced .ensures, w .before .if1 .left, ← w .word .ensures, ← c .before .word-of .ensures) (c .asked-of .ensures)
+    let s = w .before .before in
+    rw (s .before .if1 .left, ← s .spaced .ensures, w .before .if2 .left, ← w .word .ensures, ← c .before .form-of .ensures) (c .asked-of .ensures)
 
 pub asked-spec : {M : Type 1} → statement M
-asked-spec =
-    tie.close
-    (tie.spec (λ c κs. search needs) returns (λ c κs. search needs) (λ c κs. search needs) (λ c κs. search needs) returns-2)
+asked-spec = tie.close (tie.spec returns (λ c κs. search needs) returns-2 (λ c κs. search needs) (λ c κs. search needs) (λ c κs. search needs) returns-3)

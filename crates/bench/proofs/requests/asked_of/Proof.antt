@@ -8,49 +8,38 @@ use Rattle.bench.proofs.requests.asked_of.Statement.{statement}
 use Rattle.bench.proofs.requests.asked_of.Tie as tie
 
 returns : tie.Need-returns
-returns c = asked-word _ _ _ (c .before .before .form-of .ensures) (c .if1 .taken)
+returns c = asked-word _ _ (c .if1 .taken)
 
 returns-2 : tie.Need-returns-2
 returns-2 c =
     let n = c .before .before .before in
-    let f = n .before .before .before in
-    asked-count _ _ _ (f .form-of .ensures) (n .before .if1 .left) _ (n .count .ensures) (c .if2 .taken)
+    asked-count _ _ (n .before .if1 .left) _ (n .count .ensures) (c .if2 .taken)
 
 returns-3 : tie.Need-returns-3
 returns-3 c =
     let a = c .before .before .before .before in
-    let t = a .before .before .before .before in
-    let n = t .before .before .before in
-    let f = n .before .before .before in
-    asked-number _ _ _ (f .form-of .ensures) (n .before .if1 .left) _ (n .count .ensures) (t .if2 .left) _ (a .before .before .before .wide .ensures .0) _ _ _
-    (a .before .before .argument .ensures) (a .before .argument2 .ensures) (a .argument3 .ensures) (c .if3 .taken)
+    let n = a .before .before .before .before .before .before in
+    asked-number _ _ (n .before .if1 .left) _ (n .count .ensures) (a .before .before .before .if2 .left) _ _ _ (a .before .before .argument .ensures) (a .before .argument2 .ensures)
+    (a .argument3 .ensures) (c .if3 .taken)
 
 returns-4 : tie.Need-returns-4
 returns-4 c =
     let i = c .before .before .before in
     let a = i .before .before .before .before in
-    let t = a .before .before .before .before in
-    let n = t .before .before .before in
-    let f = n .before .before .before in
-    asked-hex _ _ _ (f .form-of .ensures) (n .before .if1 .left) _ (n .count .ensures) (t .if2 .left) _ (a .before .before .before .wide .ensures .0) _ _ _
-    (a .before .before .argument .ensures) (a .before .argument2 .ensures) (a .argument3 .ensures) (i .if3 .left) _
-    (c .before .hex-fits .ensures ∙ ap hexFits (c .before .before .word .ensures)) (c .if4 .taken)
+    let n = a .before .before .before .before .before .before in
+    asked-hex _ _ (n .before .if1 .left) _ (n .count .ensures) (a .before .before .before .if2 .left) _ _ _ (a .before .before .argument .ensures) (a .before .argument2 .ensures)
+    (a .argument3 .ensures) (i .if3 .left) _ (c .before .hex-fits .ensures ∙ ap hexFits (c .before .before .word .ensures)) (c .if4 .taken)
 
 returns-5 : tie.Need-returns-5
 returns-5 c =
     let h = c .before .before in
     let i = h .before .before in
     let a = i .before .before .before .before in
-    let t = a .before .before .before .before in
-    let n = t .before .before .before in
-    let f = n .before .before .before in
-    asked-made _ _ _ (f .form-of .ensures) (n .before .if1 .left) _ (n .count .ensures) (t .if2 .left) _ (a .before .before .before .wide .ensures .0) _ _ _
-    (a .before .before .argument .ensures) (a .before .argument2 .ensures) (a .argument3 .ensures) (i .if3 .left) _
-    (h .hex-fits .ensures ∙ ap hexFits (h .before .word .ensures)) (c .before .if4 .left) _ (c .made .ensures)
+    let n = a .before .before .before .before .before .before in
+    asked-made _ _ (n .before .if1 .left) _ (n .count .ensures) (a .before .before .before .if2 .left) _ _ _ (a .before .before .argument .ensures) (a .before .argument2 .ensures)
+    (a .argument3 .ensures) (i .if3 .left) _ (h .hex-fits .ensures ∙ ap hexFits (h .before .word .ensures)) (c .before .if4 .left) _ (c .made .ensures)
 
 pub asked-of-spec : {M : Type 1} → statement M
 asked-of-spec =
     tie.close
-    (tie.spec (λ c κs. search needs) returns (λ c κs. search needs) returns-2 (λ c κs. search needs) (λ c κs. search needs)
-    (λ c κs. search needs) (λ c κs. search needs) returns-3 (λ c. search needs) (λ c κs. search needs) (λ c κs. search needs)
-    returns-4 (λ c κs. search needs) returns-5)
+    (tie.spec returns (λ c κs. search needs) returns-2 (λ c κs. search needs) (λ c κs. search needs) (λ c κs. search needs) returns-3 (λ c κs. search needs) (λ c κs. search needs) returns-4 (λ c κs. search needs) returns-5)

@@ -17,7 +17,4 @@ part-hex-end c =
     inside-fits (i .before .before .args .net .now) _ _ _ (i .inside .ensures) (c .before .if1 .left)
 
 pub peek-spec : {M : Type 1} → statement M
-peek-spec =
-    tie.close
-    (tie.spec (λ c κs. search needs) (λ c κs. search needs) (λ c. search needs) add-hex (λ c. search needs)
-    (λ c. search needs) part-hex-end (λ c κs. search needs) (λ c. search needs))
+peek-spec = tie.close (tie.spec (λ c κs. search needs) (λ c κs. search needs) (λ c κs. search needs) (λ c. search needs) add-hex (λ c. search needs) (λ c. search needs) part-hex-end (λ c κs. search needs) (λ c. search needs))

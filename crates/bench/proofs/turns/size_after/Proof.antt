@@ -1,19 +1,9 @@
--- `bench::turns::size_after` meets its contract, request by request.
+-- `bench::turns::size_after` meets its contract.
 -- Assumes nothing.
+use borrow.Author.Tests.{eq-eqb, ne-eqb}
 use borrow.Author.Needs.{needs}
 use Rattle.bench.proofs.turns.size_after.Statement.{statement}
 use Rattle.bench.proofs.turns.size_after.Tie as tie
 
 pub size-after-spec : {M : Type 1} → statement M
-size-after-spec =
-    tie.close
-    (tie.spec (λ c. search needs) (λ c. search needs) (λ c. search needs) (λ c. search needs) (λ c. search needs)
-    (λ c. search needs) (λ c. search needs) (λ c. search needs) (λ c. search needs) (λ c. search needs) (λ c. search needs)
-    (λ c. search needs) (λ c. search needs) (λ c. search needs) (λ c. search needs) (λ c. search needs) (λ c. search needs)
-    (λ c. search needs) (λ c. simp (c .enum-told .given .1)) (λ c. simp (c .before .request .given .1))
-    (λ c. simp (c .enum-told2 .given .1)) (λ c. simp (c .enum-told3 .given .1)) (λ c. simp (c .enum-told4 .given .1))
-    (λ c. simp (c .enum-told5 .given .1)) (λ c. simp (c .enum-told6 .given .1)) (λ c. simp (c .enum-told7 .given .1))
-    (λ c. simp (c .enum-told8 .given .1)) (λ c. simp (c .enum-told9 .given .1)) (λ c. simp (c .enum-told10 .given .1))
-    (λ c. simp (c .enum-told11 .given .1)) (λ c. simp (c .enum-told12 .given .1)) (λ c. simp (c .enum-told13 .given .1))
-    (λ c. simp (c .enum-told14 .given .1)) (λ c. simp (c .enum-told15 .given .1)) (λ c. simp (c .enum-told16 .given .1))
-    (λ c. simp (c .enum-told17 .given .1)))
+size-after-spec = tie.close (tie.spec (λ c. rw (eq-eqb _ _ (c .if1 .taken))) (λ c. rw (ne-eqb _ _ (c .if1 .left))))

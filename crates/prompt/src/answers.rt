@@ -1,0 +1,180 @@
+// The answer lines.
+use line::step::Answer;
+use line::traffic::Outcome;
+use print::gather::ROOM;
+use print::gather::end;
+use print::gather::number;
+use print::gather::spaced;
+use print::gather::text;
+use table::calls::Interrupting;
+use table::calls::Reading;
+use words::words::part;
+
+// What was not understood.
+pub enum Mistake {
+    Long,
+    Spaces,
+    Word,
+    Count,
+    Number,
+    Hex,
+    Size,
+    Outside,
+    Room,
+}
+
+// An answer of one line: the place of its text in `tell`, and the number after it where there is one.
+pub struct Told {
+    pub text: usize,
+    pub valued: bool,
+    pub value: usize,
+}
+
+// The places of the texts. DONE is 0, and from 1 on they are the refusals of 01, "Numbers a caller may get".
+pub const DONE: usize = 0;
+
+const QUIET: usize = 15;
+
+const TOKENLOST: usize = 16;
+
+const RECOVERED: usize = 17;
+
+const PASSED: usize = 18;
+
+const UNANSWERED: usize = 19;
+
+const HELD: usize = 20;
+
+const ERROR: usize = 27;
+
+pub fn tell(out: &mut [u8; ROOM], told: Told) {
+    let words = part(
+        b"DONE\n\
+        REFUSED 1 SHAPE\n\
+        REFUSED 2 ROW\n\
+        REFUSED 3 REGISTER\n\
+        REFUSED 4 VALUE\n\
+        REFUSED 5 NOTREADY\n\
+        REFUSED 6 DIRECTION\n\
+        REFUSED 7 BUSY\n\
+        REFUSED 8 ONLINE\n\
+        REFUSED 9 PAGE\n\
+        REFUSED 10 DUPLICATE\n\
+        REFUSED 11 HOLDER\n\
+        REFUSED 12 ALONE\n\
+        REFUSED 13 ROOM\n\
+        REFUSED 14 ORDER\n\
+        QUIET\n\
+        TOKENLOST\n\
+        RECOVERED\n\
+        PASSED\n\
+        UNANSWERED\n\
+        HELD NOTHING\n\
+        HELD MALFORMED\n\
+        HELD BROADCAST\n\
+        HELD NOANSWER\n\
+        HELD NAK\n\
+        HELD DELIVERED\n\
+        HELD UNACKNOWLEDGED\n\
+        ERROR the line is too long\n\
+        ERROR words are separated by single spaces\n\
+        ERROR no such word\n\
+        ERROR too few words, or too many\n\
+        ERROR not a number up to 4294967295\n\
+        ERROR not pairs of hex digits\n\
+        ERROR a size is at most 66400\n\
+        ERROR outside the lent bytes\n\
+        ERROR a room is at most 70\n",
+        b'\n',
+        told.text,
+    );
+    let mut n = text(out, 0, words);
+    if told.valued {
+        n = number(out, n, told.value);
+    }
+    end(out, n);
+}
+
+pub fn worded(text: usize) -> Told {
+    Told {
+        text,
+        valued: false,
+        value: 0,
+    }
+}
+
+fn valued(text: usize, value: usize) -> Told {
+    Told {
+        text,
+        valued: true,
+        value,
+    }
+}
+
+// DONE, or the refusal of the number.
+pub fn numbered(number: u8) -> Told {
+    worded(number as usize)
+}
+
+// DONE and the value, or the refusal of the number.
+pub fn reading(reading: Reading) -> Told {
+    Told {
+        text: reading.number as usize,
+        valued: reading.number == 0,
+        value: reading.value as usize,
+    }
+}
+
+pub fn interrupting(interrupting: Interrupting) -> Told {
+    Told {
+        text: interrupting.number as usize,
+        valued: interrupting.number == 0,
+        value: interrupting.active as usize,
+    }
+}
+
+fn held(outcome: Outcome) -> usize {
+    match outcome {
+        Outcome::Nothing => HELD,
+        Outcome::Malformed => HELD + 1,
+        Outcome::Broadcast => HELD + 2,
+        Outcome::NoAnswer => HELD + 3,
+        Outcome::Nak => HELD + 4,
+        Outcome::Delivered => HELD + 5,
+        Outcome::Unacknowledged => HELD + 6,
+    }
+}
+
+pub fn step(answer: Answer) -> Told {
+    match answer {
+        Answer::Refused(number) => numbered(number),
+        Answer::Quiet => worded(QUIET),
+        Answer::Recovered(row) => valued(RECOVERED, row),
+        Answer::Passed(row) => valued(PASSED, row),
+        Answer::Unanswered(id) => valued(UNANSWERED, id as usize),
+        Answer::TokenLost => worded(TOKENLOST),
+        Answer::Held(outcome) => worded(held(outcome)),
+    }
+}
+
+pub fn error(mistake: Mistake) -> Told {
+    let text = match mistake {
+        Mistake::Long => ERROR,
+        Mistake::Spaces => ERROR + 1,
+        Mistake::Word => ERROR + 2,
+        Mistake::Count => ERROR + 3,
+        Mistake::Number => ERROR + 4,
+        Mistake::Hex => ERROR + 5,
+        Mistake::Size => ERROR + 6,
+        Mistake::Outside => ERROR + 7,
+        Mistake::Room => ERROR + 8,
+    };
+    worded(text)
+}
+
+// DONE and bytes.
+pub fn hex(out: &mut [u8; ROOM], s: &[u8]) {
+    let n = text(out, 0, b"DONE");
+    let n = spaced(out, n, s);
+    end(out, n);
+}
