@@ -6,13 +6,13 @@ use mathlib.Core.List.{List}
 use Prim.Native.Nat.{ℕ}
 use lib.ListN.{length}
 use borrow.Author.Tests.{not-false}
-use Rattle.card.specs.Numbers.{DONE, refuse, Smallest}
-use Rattle.card.proofs.Told.Smallest.{none-refuses, smallest}
+use Rattle.registers.specs.Numbers.{DONE, refuse, Smallest}
+use Rattle.registers.proofs.Told.Smallest.{none-refuses, smallest}
 use Rattle.table.specs.Numbers.{SHAPE}
 use Rattle.table.specs.Network.{rowStart, rows, shape}
-use Rattle.table.specs.Calls.{placeRefusals}
 use Rattle.table.proofs.Shaped.Shapes.{shape-length}
 use Rattle.bench.specs.Calls.{shapeRefusals, shapeNumber, wideRefusals, wideNumber}
+use Rattle.table.proofs.Access.Rising.{place-rises}
 
 module _ (net : List ℕ) where
   pub smallest-shape : Smallest (shapeRefusals net) (shapeNumber net)
@@ -20,8 +20,8 @@ module _ (net : List ℕ) where
   smallest-shape = smallest (shapeRefusals net) refl
 
   pub smallest-wide : (row register : ℕ) → Smallest (wideRefusals net row register) (wideNumber net row register)
-  unfolding wideNumber placeRefusals
-  smallest-wide row register = smallest (wideRefusals net row register) refl
+  unfolding wideNumber
+  smallest-wide row register = smallest (wideRefusals net row register) (place-rises net row _ refl)
 
 module _ (net : List ℕ) (r : ℕ) where
   pub shape-told : (s : Bool) → s ≡ shape net → r ≡ refuse DONE SHAPE (not s) → r ≡ shapeNumber net

@@ -5,9 +5,9 @@ use mathlib.Core.Bool.{Bool, true}
 use mathlib.Core.List.{List}
 use Prim.Native.Nat.{ℕ, _≤_, _<_}
 use borrow.Author.Tests.{le-leb, lt-leb}
-use Rattle.card.specs.declared.regs.Regs.{Regs}
-use Rattle.card.specs.Numbers.{DONE, REGISTER, VALUE, refuse}
-use Rattle.card.specs.Refusals.{noRegister}
+use Rattle.registers.specs.declared.regs.Regs.{Regs}
+use Rattle.registers.specs.Numbers.{DONE, REGISTER, VALUE, refuse}
+use Rattle.registers.specs.Refusals.{noRegister}
 use Rattle.table.specs.Network.{regsAt}
 use Rattle.table.specs.Calls.{placeNumber, netWriteNumber, netAfterWrite}
 use Rattle.table.proofs.Access.Placed.{placed-asked}

@@ -5,9 +5,9 @@ use mathlib.Core.List.{List, [], _∷_, _++_}
 use Prim.Native.Nat.{ℕ, _+_}
 use lib.Dec.{leb}
 use lib.ListN.{length, take, drop}
-use Rattle.card.specs.Words.{pick}
-use Rattle.card.specs.Numbers.{REGISTER, VALUE, Refusal, _when_, told}
-use Rattle.card.specs.Refusals.{noRegister}
+use Rattle.registers.specs.Words.{pick}
+use Rattle.registers.specs.Numbers.{REGISTER, VALUE, Refusal, _when_, told}
+use Rattle.registers.specs.Refusals.{noRegister}
 use Rattle.table.specs.Numbers.{SHAPE}
 use Rattle.table.specs.Network.{regsAt, shape}
 use Rattle.table.specs.Calls.{placeRefusals, netWriteNumber, netAfterWrite}

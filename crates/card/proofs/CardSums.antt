@@ -6,18 +6,11 @@ use mathlib.Core.Logic.{inl, inr}
 use Prim.Native.Nat.{ℕ, _<_}
 use native.Mathlib.Omega.{arith}
 use lib.Dec.{eqb, leb}
-use borrow.Author.Tests.{not-true, leb-true}
-use Rattle.card.specs.declared.regs.Regs.{Regs}
+use borrow.Author.Tests.{leb-true}
 use Rattle.card.specs.declared.packets.Shape.{Shape}
 use Rattle.card.specs.declared.packets.Shape.the-variants.{Malformed}
-use Rattle.card.specs.declared.commands.Command.the-variants.{EnableTransmit, EnableReceive}
-use Rattle.card.specs.Words.{clear, has}
-use Rattle.card.specs.Flags.{AUTO-INC, RESET}
-use Rattle.card.specs.Commands.{commandOf}
-use Rattle.card.specs.Registers.{pointer, stepped, hardwareReset, configured}
 use Rattle.card.specs.Packets.{shapeOf, dataBytes, CanBeSent, malformed}
-use Rattle.card.specs.Events.{risenNid}
-use Rattle.card.proofs.Words.Bools.{and-right, pick-of}
+use Rattle.registers.proofs.Words.Bools.{and-right, pick-of}
 
 -- COUNT of a short packet, whatever byte 3 is and whatever the page; of a long one
 module _ (next : ℕ) (long : Bool) where
@@ -54,29 +47,3 @@ data-sizes count next long c n =
     pick-of P (leb 3 count) (λ t _. let b = leb-true 3 count t in inl (omega arith, omega arith))
     (λ _. pick-of P (eqb count 0 && long && leb 4 next)
     (λ t _. let b = leb-true 4 next (and-right (eqb count 0 && long) (leb 4 next) t) in inr (omega arith, omega arith)) (λ _ e. absurd (true≢false e)))
-
--- the pages of two commands
-pub page-2C : commandOf 0x2c ≡ EnableReceive 3 false
-unfolding commandOf
-page-2C = refl
-
-pub page-0B : commandOf 0x0b ≡ EnableTransmit 2
-unfolding commandOf
-page-0B = refl
-
--- NID, pointer and status
-pub nid-255 : (g : Regs) → g .nid ≡ 255 → risenNid g .nid ≡ 0
-unfolding risenNid
-nid-255 g e = rw e
-
-pub pointer-1023 : (g : Regs) → has AUTO-INC (g .mode) ≡ true → pointer g ≡ 1023 → pointer (stepped g) ≡ 0
-unfolding stepped
-pointer-1023 g a e = rw (a, e)
-
-pub status-reset : hardwareReset .status ≡ 0x91
-unfolding hardwareReset
-status-reset = refl
-
-pub status-written : (g : Regs) (v : ℕ) → has RESET v ≡ true → configured g v .status ≡ 0x91
-unfolding configured
-status-written g v e = rw (not-true (clear RESET v) e)

@@ -4,3 +4,4 @@ pub mod Packets
 pub mod Stored
 pub mod Carried
 pub mod Waiting
+pub mod Refused

@@ -1,6 +1,3 @@
--- The words that definitions are written in: booleans, bits, bytes and lists.
-pub mod Bools
-pub mod Masks
-pub mod Table
+-- Bytes and lists: zeros, and a list laid over a part of another.
 pub mod Zeros
 pub mod Laid

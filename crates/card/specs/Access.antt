@@ -4,9 +4,9 @@ use mathlib.Core.List.{List, _++_}
 use Prim.Native.Nat.{ℕ, _+_, _-_}
 use lib.Dec.{eqb}
 use lib.ListN.{getD, set, replicate}
-use Rattle.card.specs.Words.{pick}
+use Rattle.registers.specs.Words.{pick}
 use Rattle.card.specs.Row.{registerBytes, rowBytes, mark, regsOf, putRegs}
-use Rattle.card.specs.Registers.{pointer, readValue, afterRead, afterWrite, hardwareReset}
+use Rattle.registers.specs.Registers.{pointer, readValue, afterRead, afterWrite, hardwareReset}
 
 -- where the RAM byte of register 4 stands in the row
 abbrev pub pointed : List ℕ → ℕ

@@ -6,24 +6,11 @@ use mathlib.Core.List.{List}
 use mathlib.Core.Logic.{_⊎_}
 use Prim.Native.Nat.{ℕ, _+_, _*_, _≤_, _<_}
 use lib.ListN.{getD}
-use Rattle.card.specs.declared.regs.Regs.{Regs}
+use Rattle.registers.specs.declared.regs.Regs.{Regs}
+use Rattle.registers.specs.SameBut.{SameBut}
 use Rattle.card.specs.Row.{regsOf}
 use Rattle.card.specs.Packets.{pageAt}
-use Rattle.card.specs.Events.{receiving, transmitPage, receivePage}
-
--- the registers but for status, diagnostic status and NID
-pub record SameBut (g h : Regs) : Type 0 where
-  pub id : h .id ≡ g .id
-  pub mask : h .mask ≡ g .mask
-  pub configuration : h .configuration ≡ g .configuration
-  pub setup : h .setup ≡ g .setup
-  pub tentative : h .tentative ≡ g .tentative
-  pub high : h .high ≡ g .high
-  pub low : h .low ≡ g .low
-  pub mode : h .mode ≡ g .mode
-  pub transmit : h .transmit ≡ g .transmit
-  pub receive : h .receive ≡ g .receive
-  pub long : h .long ≡ g .long
+use Rattle.registers.specs.Events.{receiving, transmitPage, receivePage}
 
 -- the row but for those three: its mark, its other registers, and all that stands behind them, the RAM too, are as they were
 pub record Bystander (r s : List ℕ) : Type 0 where

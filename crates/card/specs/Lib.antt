@@ -1,12 +1,4 @@
-pub mod Words
-pub mod Numbers
-pub mod Flags
-pub mod Fields
 pub mod Row
-pub mod Commands
-pub mod Registers
-pub mod Refusals
 pub mod Access
 pub mod Packets
-pub mod Events
 pub mod Bystander

@@ -9,9 +9,10 @@ use lib.ListN.{length, getD, take, drop, replicate, set}
 use Rattle.card.specs.declared.packets.Shape.{Shape}
 use Rattle.card.specs.declared.packets.Shape.the-variants.{Malformed, Short, Long}
 use Rattle.card.specs.declared.packets.Packet.{Packet}
-use Rattle.card.specs.Words.{pick, clear}
-use Rattle.card.specs.Numbers.{VALUE, Refusal, _when_, told}
+use Rattle.registers.specs.Words.{pick, clear}
+use Rattle.registers.specs.Numbers.{VALUE, Refusal, _when_, told}
 use Rattle.card.specs.Row.{registerBytes, regsOf}
+use Rattle.registers.specs.declared.regs.Regs.{Regs}
 
 -- "COUNT 3-255: .. COUNT 0, with long packets 1 and an even page: byte 3 is COUNT, 4-255 .. All else is malformed": of the byte
 -- at offset 2, the one after it, and whether the page may be long
@@ -97,3 +98,9 @@ stored r p k = laid (pageAt p + dataAt (k .shape)) (dataOf k) (laid (pageAt p) (
 -- "own ID is first written at byte 0 of the transmit page"
 unfoldable pub stamped : List ℕ → ℕ → List ℕ
 stamped r p = set r (pageAt p) (regsOf r .id)
+
+-- "A long packet at a row with long packets 0 .. stores nothing there"
+unfoldable pub storable : Regs → Shape → Bool
+storable g Malformed = false
+storable g (Short c) = true
+storable g (Long c) = eqb (g .long) 1

@@ -1,21 +1,18 @@
 -- Document 01, "The saved network": a row, its register bytes, and when it is well formed.
 -- Assumes nothing.
-use mathlib.Core.Bool.{Bool, true, not, _&&_, _||_}
-use mathlib.Core.List.{List, [], _∷_, _++_}
+use mathlib.Core.Bool.{Bool, true, _&&_}
+use mathlib.Core.List.{List, [], _∷_}
 use Prim.Native.Nat.{ℕ, _+_, _-_}
 use lib.Dec.{eqb}
 use lib.ListN.{getD, take, drop}
 use lib.Seq.{sets}
-use Rattle.card.specs.declared.regs.Regs.{Regs}
-use Rattle.card.specs.Words.{all, clear, has}
-use Rattle.card.specs.Flags.{RI, TMA, TA, RESET, TXEN, LOW2, only, statusBits, diagnosticBits, maskBits, configurationBits, setupBits, modeBits, transmitBits, receiveBits}
+use Rattle.registers.specs.declared.regs.Regs.{Regs}
+use Rattle.registers.specs.Registers.{ramBytes}
+use Rattle.registers.specs.Fit.{fit}
 
 -- "n rows of 1,088 bytes: 64 of registers, then 1,024 of RAM"
 abbrev pub registerBytes : ℕ
 registerBytes = 64
-
-abbrev pub ramBytes : ℕ
-ramBytes = 1024
 
 abbrev pub rowBytes : ℕ
 rowBytes = registerBytes + ramBytes
@@ -60,32 +57,6 @@ zeros (x ∷ l) = eqb x 0 && zeros l
 
 abbrev pub spare : List ℕ → List ℕ
 spare r = take (registerBytes - 16) (drop 16 r)
-
--- "Awake: ID not 0 and RESET clear. On line: awake and TXEN set."
-unfoldable pub awake : Regs → Bool
-awake g = not (eqb (g .id) 0) && clear RESET (g .configuration)
-
-unfoldable pub onLine : Regs → Bool
-onLine g = awake g && has TXEN (g .configuration)
-
--- "Unnamed bits are zero", "CCHEN = 0"
-abbrev pub named : Regs → List Bool
-named g =
-    only statusBits (g .status) ∷ only diagnosticBits (g .diagnostic) ∷ only maskBits (g .mask)
-    ∷ only configurationBits (g .configuration) ∷ only setupBits (g .setup) ∷ only LOW2 (g .high) ∷ only modeBits (g .mode)
-    ∷ only transmitBits (g .transmit) ∷ only receiveBits (g .receive) ∷ only 1 (g .long) ∷ []
-
--- "TA = 1 only with byte 13 zero; RI = 1 only with byte 14 zero; TMA = 1 only with TA = 1; ..
--- with long packets 1, an enabled page (TA = 0, RI = 0) is even"
-abbrev pub agree : Regs → List Bool
-agree g =
-    (clear TA (g .status) || eqb (g .transmit) 0) ∷ (clear RI (g .status) || eqb (g .receive) 0)
-    ∷ (clear TMA (g .status) || has TA (g .status))
-    ∷ (not (eqb (g .long) 1) || has TA (g .status) || clear 1 (g .transmit))
-    ∷ (not (eqb (g .long) 1) || has RI (g .status) || clear 1 (g .receive)) ∷ []
-
-unfoldable pub fit : Regs → Bool
-fit g = all (named g ++ agree g)
 
 unfoldable pub marked : List ℕ → Bool
 marked r = eqb (getD r 0 0) (getD mark 0 0) && eqb (getD r 1 0) (getD mark 1 0)

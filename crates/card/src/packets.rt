@@ -3,12 +3,13 @@ ghost use mathlib.Core.Path.{_≡_};
 ghost use Prim.Native.Nat.{_+_, _-_, _≤_, _<_};
 ghost use lib.ListN.{length, take, drop};
 ghost use Rattle.card.specs.Row.{rowBytes};
-ghost use Rattle.card.specs.Packets.{shapeOf, dataBytes, dataAt, headBytes, pageBytes, pageAt, malformed, pageShape, destination, dataNumber, pageData, packetAt, laid, stored, stamped};
-use crate::numbers::DONE;
-use crate::numbers::VALUE;
-use crate::numbers::refuse;
+ghost use Rattle.card.specs.Packets.{shapeOf, dataBytes, dataAt, headBytes, pageBytes, pageAt, malformed, pageShape, destination, dataNumber, pageData, packetAt, laid, stored, stamped, storable};
 use crate::row::REGISTER_BYTES;
 use crate::row::load;
+use registers::numbers::DONE;
+use registers::numbers::VALUE;
+use registers::numbers::refuse;
+use registers::regs::Regs;
 
 // What a page holds, and the COUNT byte of a packet: the page offset at which its data start.
 pub enum Shape {
@@ -87,6 +88,17 @@ impl Shape {
             Shape::Malformed => 0,
             Shape::Short(_) => 256,
             Shape::Long(_) => 512,
+        }
+    }
+
+    // Whether a packet of this shape can be stored by a card with the registers g at all.
+    pub fn storable(self, g: Regs) -> bool
+        ensures { λ r. ⌜ r ≡ storable g self ⌝ }
+    {
+        match self {
+            Shape::Malformed => false,
+            Shape::Short(_) => true,
+            Shape::Long(_) => g.long == 1,
         }
     }
 }

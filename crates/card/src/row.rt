@@ -4,7 +4,7 @@ ghost use Prim.Native.Nat.{_<_};
 ghost use lib.ListN.{length, replicate};
 ghost use Rattle.card.specs.Row.{rowBytes, regsOf, putRegs, zeros, wellFormed};
 ghost use Rattle.card.specs.Access.{valueRead, rowAfterRead, ramWritten, rowAfterWrite, rowAfterReset, freshRow};
-use crate::regs::Regs;
+use registers::regs::Regs;
 
 pub const REGISTER_BYTES: usize = 64;
 

@@ -5,7 +5,7 @@ use mathlib.Core.Bool.{true}
 use mathlib.Core.List.{List, [], _∷_, map}
 use Prim.Native.Nat.{ℕ, zero, suc, _+_, _*_, _≤_, _<_}
 use lib.ListN.{getD}
-use Rattle.card.specs.Words.{pick}
+use Rattle.registers.specs.Words.{pick}
 use Rattle.line.specs.declared.step.Answer.{Answer}
 use Rattle.table.specs.Folds.{some}
 use Rattle.table.specs.Network.{rows, phase, holder, LOST, TAKEN, isNode, shape, SameNodes}

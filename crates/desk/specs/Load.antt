@@ -5,8 +5,8 @@ use mathlib.Core.List.{List, [], _∷_}
 use Prim.Native.Nat.{ℕ, zero, suc}
 use lib.Dec.{eqb}
 use lib.ListN.{length}
-use Rattle.card.specs.Words.{pick, has}
-use Rattle.card.specs.Numbers.{Refusal, _when_, told}
+use Rattle.registers.specs.Words.{pick, has}
+use Rattle.registers.specs.Numbers.{Refusal, _when_, told}
 use Rattle.table.specs.Numbers.{ROOM}
 use Rattle.table.specs.Network.{rowStart}
 use Rattle.table.specs.Calls.{netAfterWrite, netAfterFresh}

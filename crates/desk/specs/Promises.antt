@@ -5,7 +5,7 @@ use mathlib.Core.Bool.{Bool, true, false}
 use mathlib.Core.List.{List, []}
 use Prim.Native.Nat.{ℕ, _+_, _*_, _≤_, _<_}
 use lib.ListN.{length, getD}
-use Rattle.card.specs.Numbers.{Smallest}
+use Rattle.registers.specs.Numbers.{Smallest}
 use Rattle.card.specs.Packets.{shapeOf, dataBytes, CanBeSent, malformed}
 use Rattle.card.specs.Bystander.{Bystander, Storing, Sends}
 use Rattle.line.specs.declared.traffic.Outcome.{Outcome}

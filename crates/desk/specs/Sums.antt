@@ -5,15 +5,15 @@ use mathlib.Core.Bool.{Bool, true, false}
 use mathlib.Core.List.{List, [], _∷_, map}
 use Prim.Native.Nat.{ℕ}
 use lib.ListN.{take}
-use Rattle.card.specs.declared.regs.Regs.{Regs}
+use Rattle.registers.specs.declared.regs.Regs.{Regs}
 use Rattle.card.specs.declared.packets.Shape.the-variants.{Malformed}
-use Rattle.card.specs.declared.commands.Command.the-variants.{EnableTransmit, EnableReceive}
-use Rattle.card.specs.Words.{has}
-use Rattle.card.specs.Flags.{AUTO-INC, RESET}
-use Rattle.card.specs.Commands.{commandOf}
-use Rattle.card.specs.Registers.{pointer, stepped, hardwareReset, configured}
+use Rattle.registers.specs.declared.commands.Command.the-variants.{EnableTransmit, EnableReceive}
+use Rattle.registers.specs.Words.{has}
+use Rattle.registers.specs.Flags.{AUTO-INC, RESET}
+use Rattle.registers.specs.Commands.{commandOf}
+use Rattle.registers.specs.Registers.{pointer, stepped, hardwareReset, configured}
 use Rattle.card.specs.Packets.{shapeOf, dataBytes}
-use Rattle.card.specs.Events.{risenNid}
+use Rattle.registers.specs.Events.{risenNid}
 use Rattle.table.specs.Network.{rows, topId}
 use Rattle.desk.specs.declared.laps.Taker.{Taker}
 use Rattle.desk.specs.Lap.{nodes, answers, invitations, takers, lapSteps}

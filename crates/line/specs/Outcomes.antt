@@ -5,16 +5,17 @@ use mathlib.Core.Bool.{Bool, true, false, not, _&&_, _||_}
 use mathlib.Core.List.{List}
 use Prim.Native.Nat.{ℕ}
 use lib.Dec.{eqb}
-use Rattle.card.specs.declared.regs.Regs.{Regs}
+use Rattle.registers.specs.declared.regs.Regs.{Regs}
 use Rattle.card.specs.declared.packets.Shape.{Shape}
 use Rattle.line.specs.declared.traffic.Outcome.{Outcome}
 use Rattle.line.specs.declared.traffic.Outcome.the-variants.{Nothing, Malformed, Broadcast, NoAnswer, Nak, Delivered, Unacknowledged}
 use Rattle.line.specs.declared.step.Answer.{Answer}
 use Rattle.line.specs.declared.step.Answer.the-variants.{Refused, Quiet, Recovered, Passed, Unanswered, TokenLost, Held}
-use Rattle.card.specs.Words.{pick, has}
-use Rattle.card.specs.Flags.{TMA, TA}
+use Rattle.registers.specs.Words.{pick, has}
+use Rattle.registers.specs.Flags.{TMA, TA}
 use Rattle.card.specs.Packets.{malformed, pageShape, destination}
-use Rattle.card.specs.Events.{heard, cancelled, sent, enquired, transmitting, receiving, transmitPage, storable}
+use Rattle.registers.specs.Events.{heard, cancelled, sent, enquired, transmitting, receiving, transmitPage}
+use Rattle.card.specs.Packets.{storable}
 use Rattle.table.specs.Network.{rows, phase, holder, TAKEN, rowAt, regsAt, nodeOf}
 use Rattle.line.specs.Traffic.{onRow, damaged, takes}
 use Rattle.line.specs.Step.{stepNumber}

@@ -8,9 +8,9 @@ use Rattle.line.specs.declared.passes.Event.the-variants.{Recovery, Mess
 use Rattle.line.specs.declared.traffic.Outcome.{Outcome}
 use Rattle.line.specs.declared.step.Answer.{Answer}
 use Rattle.line.specs.declared.step.Answer.the-variants.{Refused, Quiet, Recovered, Passed, Unanswered, TokenLost, Held}
-use Rattle.card.specs.Words.{pick}
-use Rattle.card.specs.Numbers.{VALUE, Refusal, _when_, told}
-use Rattle.card.specs.Events.{risenNid}
+use Rattle.registers.specs.Words.{pick}
+use Rattle.registers.specs.Numbers.{VALUE, Refusal, _when_, told}
+use Rattle.registers.specs.Events.{risenNid}
 use Rattle.table.specs.Numbers.{SHAPE}
 use Rattle.line.specs.Numbers.{HOLDER}
 use Rattle.table.specs.Network.{rows, phase, holder, LOST, PASS, TAKEN, turned, regsAt, onLineAt, nodeOf, topId, shape}

@@ -4,16 +4,17 @@ use mathlib.Core.Bool.{Bool, true, false, not, _&&_, _||_}
 use mathlib.Core.List.{List}
 use Prim.Native.Nat.{ℕ}
 use lib.Dec.{eqb, ltb}
-use Rattle.card.specs.declared.regs.Regs.{Regs}
+use Rattle.registers.specs.declared.regs.Regs.{Regs}
 use Rattle.card.specs.declared.packets.Packet.{Packet}
 use Rattle.line.specs.declared.passes.Event.{Event}
 use Rattle.line.specs.declared.passes.Event.the-variants.{Recovery, Message, Taken}
 use Rattle.line.specs.declared.traffic.Outcome.{Outcome}
 use Rattle.line.specs.declared.traffic.Outcome.the-variants.{Nothing, Malformed, Broadcast, NoAnswer, Nak, Delivered, Unacknowledged}
-use Rattle.card.specs.Words.{pick}
+use Rattle.registers.specs.Words.{pick}
 use Rattle.card.specs.Row.{regsOf}
 use Rattle.card.specs.Packets.{malformed, pageShape, destination, packetAt, stored, stamped}
-use Rattle.card.specs.Events.{recovered, heard, answered, received, cancelled, sent, enquired, transmitting, receiving, takesBroadcasts, transmitPage, receivePage, storable}
+use Rattle.registers.specs.Events.{recovered, heard, answered, received, cancelled, sent, enquired, transmitting, receiving, takesBroadcasts, transmitPage, receivePage}
+use Rattle.card.specs.Packets.{storable}
 use Rattle.table.specs.Network.{rows, rowAt, setRow, eachRow, onRegs, regsAt, nodeOf}
 
 -- an answer, and the network after it

@@ -4,14 +4,15 @@ ghost use mathlib.Core.Path.{_≡_};
 ghost use mathlib.Core.Bool.{true, _&&_};
 ghost use Prim.Native.Nat.{_≤_};
 ghost use lib.ListN.{length};
-ghost use Rattle.card.specs.Words.{pick};
+ghost use Rattle.registers.specs.Words.{pick};
 ghost use Rattle.card.specs.Row.{rowBytes, regsOf, wellFormed};
-ghost use Rattle.card.specs.Events.{receiving, storable};
+ghost use Rattle.registers.specs.Events.{receiving};
+ghost use Rattle.card.specs.Packets.{storable};
 ghost use Rattle.table.specs.Network.{rowStart, eachRow, onRegs, rowsFit};
 ghost use Rattle.line.specs.Traffic.{happens, storedRow, carriedRow};
 use card::packets::Packet;
-use card::regs::Regs;
 use card::row::ROW_BYTES;
+use registers::regs::Regs;
 use table::network::HEADER;
 use table::network::regs_at;
 
@@ -68,7 +69,7 @@ fn carry_row(row: &mut [u8], takes: bool, packet: Packet)
 {
     let g = card::row::load(row);
     let shape = packet.shape;
-    if takes & g.receiving() & g.storable(shape) {
+    if takes & g.receiving() & shape.storable(g) {
         card::packets::store_packet(row, g.receive_page(), packet);
         let g = card::row::load(row).received();
         card::row::store(row, g);

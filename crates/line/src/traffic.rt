@@ -53,7 +53,7 @@ fn deliver(net: &mut [u8], h: usize, page: usize, fault: usize, t: usize) -> Out
     ensures bytes { λ _. ⌜ now (net .exit) ≡ packetTurn (now (net .entry)) h page fault t .after ⌝ }
 {
     let shape = card::packets::page_shape(row_at(net, h), page);
-    let stored = (fault != 1) & regs_at(net, t).storable(shape);
+    let stored = (fault != 1) & shape.storable(regs_at(net, t));
     let acknowledged = stored & (fault != 2);
     send(net, h, page, fault, t, false);
     let g = regs_at(net, h).heard(false).sent(acknowledged);

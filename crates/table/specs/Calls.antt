@@ -7,14 +7,14 @@ use lib.Dec.{eqb, leb, ltb}
 use lib.ListN.{length, replicate}
 use Rattle.table.specs.declared.calls.Reading.{Reading}
 use Rattle.table.specs.declared.calls.Interrupting.{Interrupting}
-use Rattle.card.specs.Words.{pick}
-use Rattle.card.specs.Numbers.{VALUE, NOTREADY, Refusal, _when_, told}
-use Rattle.card.specs.Row.{onLine}
-use Rattle.card.specs.Registers.{interrupt, afterWrite}
-use Rattle.card.specs.Refusals.{readRefusals, writeRefusals}
+use Rattle.registers.specs.Words.{pick}
+use Rattle.registers.specs.Numbers.{VALUE, NOTREADY, Refusal, _when_, told}
+use Rattle.registers.specs.Fit.{onLine}
+use Rattle.registers.specs.Registers.{interrupt, afterWrite}
+use Rattle.registers.specs.Refusals.{readRefusals, writeRefusals}
 use Rattle.card.specs.Access.{valueRead, rowAfterRead, rowAfterWrite, rowAfterReset, freshRow}
 use Rattle.card.specs.Packets.{dataRefusals, pageData}
-use Rattle.card.specs.Events.{burst}
+use Rattle.registers.specs.Events.{burst}
 use Rattle.table.specs.Numbers.{SHAPE, ROW, DUPLICATE, ROOM}
 use Rattle.table.specs.Network.{mark, rowLimit, rowStart, rows, phase, holder, LOST, turned, rowAt, setRow, onRegs, regsAt, onLineAt, nodeOf, shape}
 

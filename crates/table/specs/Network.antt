@@ -6,9 +6,10 @@ use mathlib.Core.List.{List, [], _∷_, _++_}
 use Prim.Native.Nat.{ℕ, zero, suc, _+_, _*_, _<_}
 use lib.Dec.{eqb, leb, ltb}
 use lib.ListN.{length, getD, set, take, drop}
-use Rattle.card.specs.declared.regs.Regs.{Regs}
-use Rattle.card.specs.Words.{pick, all}
-use Rattle.card.specs.Row.{rowBytes, regsOf, putRegs, zeros, onLine, wellFormed}
+use Rattle.registers.specs.declared.regs.Regs.{Regs}
+use Rattle.registers.specs.Words.{pick, all}
+use Rattle.card.specs.Row.{rowBytes, regsOf, putRegs, zeros, wellFormed}
+use Rattle.registers.specs.Fit.{onLine}
 use Rattle.table.specs.Folds.{every, some, seek}
 
 -- "Header, 16 bytes: mark 41 4E hex; byte 2 = 1; byte 3 = rows n, 1 to 60; byte 4 = phase (0 LOST, 1 PASS, 2 TAKEN); byte 5 = holder row,

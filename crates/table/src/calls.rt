@@ -25,11 +25,11 @@ use crate::numbers::DUPLICATE;
 use crate::numbers::ROOM;
 use crate::numbers::ROW;
 use crate::numbers::SHAPE;
-use card::numbers::DONE;
-use card::numbers::NOTREADY;
-use card::numbers::VALUE;
-use card::numbers::refuse;
 use card::row::ROW_BYTES;
+use registers::numbers::DONE;
+use registers::numbers::NOTREADY;
+use registers::numbers::VALUE;
+use registers::numbers::refuse;
 
 // What a read gives: the refusal's number, DONE for none, and the value, 0 beside a refusal.
 pub struct Reading {

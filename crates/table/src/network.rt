@@ -4,8 +4,8 @@ ghost use Prim.Native.Nat.{_+_, _≤_, _<_};
 ghost use lib.ListN.{length};
 ghost use Rattle.card.specs.Row.{rowBytes, putRegs};
 ghost use Rattle.table.specs.Network.{headerBytes, rowStart, rows, phase, holder, turned, rowAt, setRow, regsAt, nodeOf, topId, headerFits, rowsFit, idsDiffer, holderFits, shape};
-use card::regs::Regs;
 use card::row::ROW_BYTES;
+use registers::regs::Regs;
 
 pub const HEADER: usize = 16;
 
@@ -109,7 +109,7 @@ pub fn top_id(net: &[u8], n: usize) -> u8
     let mut k = 0;
     while k < n {
         let g = regs_at(net, k);
-        top = card::numbers::choose(g.on_line() & (top < g.id), g.id, top);
+        top = registers::numbers::choose(g.on_line() & (top < g.id), g.id, top);
         k += 1;
     }
     top

@@ -5,11 +5,11 @@ use mathlib.Core.List.{List}
 use Prim.Native.Nat.{ℕ, _+_}
 use lib.Dec.{eqb}
 use lib.ListN.{length, getD, length-set}
-use Rattle.card.specs.declared.regs.Regs.{Regs}
+use Rattle.registers.specs.declared.regs.Regs.{Regs}
 use Rattle.card.specs.Row.{registerBytes, regsOf, putRegs}
-use Rattle.card.specs.Registers.{pointer, readValue, afterRead, afterWrite}
+use Rattle.registers.specs.Registers.{pointer, readValue, afterRead, afterWrite}
 use Rattle.card.specs.Access.{valueRead, rowAfterRead, ramWritten, rowAfterWrite}
-use Rattle.card.proofs.Words.Bools.{pick-of}
+use Rattle.registers.proofs.Words.Bools.{pick-of}
 
 module _ (r : List ℕ) (k : ℕ) (g : Regs) (p : g ≡ regsOf r) (a : ℕ) (q : a ≡ pointer g) where
   pub read-done : (v : ℕ) → v ≡ readValue g (getD r (registerBytes + a) 0) k → (h : Regs) → h ≡ afterRead g k → (s : List ℕ) → s ≡ putRegs r h

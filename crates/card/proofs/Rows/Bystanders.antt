@@ -1,7 +1,7 @@
 -- A card that a message or a recovery reaches is a bystander: only its status, its diagnostic status and its NID may change.
 -- Assumes nothing.
 use mathlib.Core.Path.{_≡_, refl, sym, _∙_}
-use mathlib.Core.Bool.{Bool, true, false≢true}
+use mathlib.Core.Bool.{true, false≢true}
 use mathlib.Core.Logic.{⊎-elim, inl, inr}
 use mathlib.Core.List.{List}
 use Prim.Native.Nat.{ℕ, _+_, _*_, _≤_, _<_}
@@ -9,93 +9,24 @@ use native.Mathlib.Omega.{arith}
 use borrow.Author.Tests.{eqb-true}
 use lib.ListN.{length, getD}
 use lib.Seq.{getD-set-other}
-use Rattle.card.specs.declared.regs.Regs.{Regs}
+use Rattle.registers.specs.declared.regs.Regs.{Regs}
 use Rattle.card.specs.declared.packets.Shape.{Shape}
 use Rattle.card.specs.declared.packets.Shape.the-variants.{Malformed, Short, Long}
 use Rattle.card.specs.declared.packets.Packet.{Packet}
-use Rattle.card.specs.Words.{clear}
-use Rattle.card.specs.Flags.{RI, RECON}
-use Rattle.card.specs.Fields.{with-status, with-diagnostic, with-nid}
-use Rattle.card.specs.Row.{rowBytes, regsOf, putRegs, awake}
+use Rattle.card.specs.Row.{rowBytes, regsOf, putRegs}
 use Rattle.card.specs.Packets.{dataAt, pageBytes, pageAt, pageShape, packetAt, stored, stamped}
-use Rattle.card.specs.Events.{recovered, heard, answered, risenNid, received, receiving, takesBroadcasts, receivePage, storable}
-use Rattle.card.specs.Bystander.{SameBut, Bystander, OutsidePage, Spares, Storing}
-use Rattle.card.proofs.Words.Bools.{pick-of}
-use Rattle.card.proofs.Registers.SameCard.{awake-same}
-use Rattle.card.proofs.Pages.Waiting.{received-ends, received-page}
-use Rattle.card.proofs.Words.Masks.{raise-other}
+use Rattle.registers.specs.Events.{received, receiving, receivePage}
+use Rattle.card.specs.Packets.{storable}
+use Rattle.registers.specs.SameBut.{SameBut}
+use Rattle.card.specs.Bystander.{Bystander, OutsidePage, Spares, Storing}
+use Rattle.registers.proofs.Values.Ends.{received-ends, received-page}
 use Rattle.card.proofs.Rows.Bytes.{put-mark, put-rest, regs-put}
 use Rattle.card.proofs.Pages.Stored.{stored-outside}
 use Rattle.card.proofs.Rows.WellFormed.{regs-stamped}
+use Rattle.registers.proofs.Values.Listens.{but-same, but-then, receive-page-same}
 
--- ---- the registers
-but-with : (g : Regs) (status diagnostic nid : ℕ) → SameBut g (with-status status (with-diagnostic diagnostic (with-nid nid g)))
-but-with g status diagnostic nid = record {
-  id = refl;
-  mask = refl;
-  configuration = refl;
-  setup = refl;
-  tentative = refl;
-  high = refl;
-  low = refl;
-  mode = refl;
-  transmit = refl;
-  receive = refl;
-  long = refl;
-}
-
-but-same : (g : Regs) → SameBut g g
-but-same g = but-with g (g .status) (g .diagnostic) (g .nid)
-
-but-then : (g h k : Regs) → SameBut g h → SameBut h k → SameBut g k
-but-then g h k a b = record {
-  id = b .id ∙ a .id;
-  mask = b .mask ∙ a .mask;
-  configuration = b .configuration ∙ a .configuration;
-  setup = b .setup ∙ a .setup;
-  tentative = b .tentative ∙ a .tentative;
-  high = b .high ∙ a .high;
-  low = b .low ∙ a .low;
-  mode = b .mode ∙ a .mode;
-  transmit = b .transmit ∙ a .transmit;
-  receive = b .receive ∙ a .receive;
-  long = b .long ∙ a .long;
-}
-
--- what reaches a card leaves its RI too
-pub record Listens (g h : Regs) : Type 0 where
-  pub but : SameBut g h
-  pub receives : receiving h ≡ receiving g
-
-pub listens-same : (g : Regs) → Listens g g
-listens-same g = record { but = but-same g; receives = refl }
-
-module _ (g : Regs) where
-  pub listens-recovered : Listens g (recovered g)
-  unfolding recovered receiving
-  listens-recovered = record {
-    but = but-with g _ _ _;
-    receives = pick-of (λ (x : ℕ). clear RI x ≡ clear RI (g .status)) (awake g) (λ _. raise-other RI RECON (g .status) refl) (λ _. refl);
-  }
-
-  pub listens-heard : (token : Bool) → Listens g (heard g token)
-  unfolding heard receiving
-  listens-heard token = record { but = but-with g _ _ _; receives = refl }
-
-  pub listens-answered : (n : ℕ) (taker : Bool) → Listens g (answered g n taker)
-  unfolding answered receiving
-  listens-answered n taker = record { but = but-with g _ _ _; receives = refl }
-
-  pub reached-risen : Listens g (risenNid g)
-  unfolding risenNid receiving
-  reached-risen = record { but = but-with g _ _ _; receives = refl }
-
--- and so whether it takes a broadcast, and what it can store
+-- what a card can store
 module _ (g h : Regs) (b : SameBut g h) where
-  pub takes-same : receiving h ≡ receiving g → takesBroadcasts h ≡ takesBroadcasts g
-  unfolding takesBroadcasts
-  takes-same e = rw (awake-same g h (b .id) (b .configuration), e, b .receive)
-
   pub storable-same : (s : Shape) → storable h s ≡ storable g s
   unfolding storable
   storable-same Malformed = refl
@@ -118,8 +49,7 @@ bystander-put r g h b = record { mark = put-mark r g; registers = rw (regs-put r
 
 -- ---- the RAM outside the receive page
 same-outside : (g h : Regs) → SameBut g h → (i : ℕ) → OutsidePage g i → OutsidePage h i
-unfolding receivePage
-same-outside g h b i o = rw (b .receive, b .long) o
+same-outside g h b i o = rw (receive-page-same g h b, b .long) o
 
 -- a bystander, before and after, of a card that stores a packet
 module _ (r s t : List ℕ) where

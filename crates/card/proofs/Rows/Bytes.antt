@@ -9,9 +9,10 @@ use native.Mathlib.Omega.{arith}
 use lib.Dec.{lit<}
 use lib.ListN.{length, getD, set, drop, length-set, length-drop}
 use lib.Seq.{sets, length-sets, set-getD, getD-set-other, getD-set-same, getD-take, getD-drop, ext-getD, length-take-le}
-use Rattle.card.specs.declared.regs.Regs.{Regs}
-use Rattle.card.specs.Row.{registerBytes, regsOf, bytesOf, putRegs, spare, zeros, marked, fit, wellFormed}
-use Rattle.card.proofs.Words.Bools.{and-left, and-right}
+use Rattle.registers.specs.declared.regs.Regs.{Regs}
+use Rattle.card.specs.Row.{registerBytes, regsOf, bytesOf, putRegs, spare, zeros, marked, wellFormed}
+use Rattle.registers.specs.Fit.{fit}
+use Rattle.registers.proofs.Words.Bools.{and-left, and-right}
 
 -- ---- a run of stores: below it, above it, and in it
 module _ (k : ℕ) where

@@ -10,11 +10,11 @@ use borrow.Author.Tests.{eqb-true, eqb-false, ltb-true, ltb-false}
 use lib.Dec.{eqb, ltb}
 use lib.ListN.{length, getD, take, drop, replicate, set, length-take, length-set, List·getD-eq-default, List·getD-append}
 use lib.Seq.{getD-take, getD-drop, getD-append-add, getD-set-same, getD-set-other}
-use Rattle.card.specs.declared.regs.Regs.{Regs}
+use Rattle.registers.specs.declared.regs.Regs.{Regs}
 use Rattle.card.specs.declared.packets.Packet.{Packet}
 use Rattle.card.specs.Row.{regsOf, putRegs}
 use Rattle.card.specs.Packets.{dataAt, headBytes, pageBytes, pageAt, pageShape, packetAt, stored, stamped}
-use Rattle.card.proofs.Words.Bools.{cases}
+use Rattle.registers.proofs.Words.Bools.{cases}
 use Rattle.card.proofs.Rows.Bytes.{put-rest}
 use Rattle.card.proofs.Pages.Stored.{stored-outside, stored-gap, stored-data, stored-head}
 use Rattle.card.proofs.Pages.Packets.{Ram}

@@ -2,38 +2,47 @@
 -- Assumes nothing.
 use mathlib.Core.Path.{_≡_, refl, _∙_}
 use mathlib.Core.Bool.{true, false}
-use mathlib.Core.List.{List}
+use mathlib.Core.List.{List, _++_}
 use mathlib.Core.Logic.{inl}
-use Prim.Native.Nat.{ℕ, _+_, _≤_, _<_}
+use Prim.Native.Nat.{ℕ, _+_, _≤_, _<_, _-_}
 use native.Mathlib.Omega.{arith}
-use lib.Dec.{eqb}
-use lib.ListN.{length, set, length-set}
+use lib.Dec.{eqb, lit≤}
+use lib.ListN.{length, set, length-set, replicate}
 use lib.Seq.{getD-set-other}
-use Rattle.card.specs.declared.regs.Regs.{Regs}
+use Rattle.registers.specs.declared.regs.Regs.{Regs}
 use Rattle.card.specs.declared.packets.Packet.{Packet}
-use Rattle.card.specs.Row.{registerBytes, rowBytes, regsOf, putRegs, marked, zeros, awake, onLine, fit, wellFormed}
-use Rattle.card.specs.Registers.{afterRead, afterWrite, hardwareReset}
-use Rattle.card.specs.Refusals.{writeNumber}
+use Rattle.card.specs.Row.{registerBytes, rowBytes, regsOf, putRegs, marked, zeros, wellFormed, mark}
+use Rattle.registers.specs.Fit.{onLine}
+use Rattle.registers.specs.Registers.{afterRead, afterWrite, hardwareReset}
+use Rattle.registers.specs.Refusals.{writeNumber}
 use Rattle.card.specs.Access.{pointed, rowAfterRead, ramWritten, rowAfterWrite, rowAfterReset, freshRow}
 use Rattle.card.specs.Packets.{dataAt, pageBytes, pageAt, stored, stamped}
-use Rattle.card.proofs.Words.Bools.{pick-of}
-use Rattle.card.proofs.Rows.Bytes.{regs-same, length-put, well-fit, well-same, well-put}
-use Rattle.card.proofs.Registers.Fits.{Fit, fit-rules, rules-fit}
+use Rattle.registers.proofs.Words.Bools.{pick-of}
+use Rattle.card.proofs.Rows.Bytes.{regs-same, length-put, well-fit, well-same, well-put, regs-put}
+use Rattle.registers.proofs.Values.Fits.{Fit, fit-rules, rules-fit}
 use Rattle.card.proofs.Rows.Accesses.{length-ram}
-use Rattle.card.proofs.Registers.FitCalls.{fit-read, fit-write, fit-reset}
+use Rattle.registers.proofs.Values.FitCalls.{fit-read, fit-write, fit-reset}
 use Rattle.card.proofs.Pages.Stored.{stored-outside, length-stored}
+use Rattle.registers.proofs.Values.SameCard.{reset-off}
 
 pub length-fresh : length freshRow ≡ rowBytes
 unfolding freshRow putRegs
 length-fresh = refl
 
+-- the row before its registers: a mark and zeros
+abbrev bare : List ℕ
+bare = mark ++ replicate (rowBytes - 2) 0
+
+pub regs-fresh : regsOf freshRow ≡ hardwareReset
+unfolding freshRow
+regs-fresh = regs-put bare hardwareReset (lit≤ tt)
+
 pub well-fresh : wellFormed freshRow ≡ true
-unfolding freshRow putRegs hardwareReset wellFormed marked fit regsOf zeros
-well-fresh = refl
+unfolding freshRow putRegs wellFormed marked zeros
+well-fresh = rw (regs-fresh, fit-reset)
 
 pub fresh-off : onLine (regsOf freshRow) ≡ false
-unfolding freshRow putRegs hardwareReset regsOf onLine awake
-fresh-off = refl
+fresh-off = rw regs-fresh reset-off
 
 module _ (r : List ℕ) (l : length r ≡ rowBytes) where
   pub length-read : (k : ℕ) → length (rowAfterRead r k) ≡ rowBytes

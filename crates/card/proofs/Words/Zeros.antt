@@ -10,7 +10,7 @@ use borrow.Author.Tests.{eq-eqb, ne-eqb}
 use lib.ListN.{length, getD, drop, set, replicate, drop-of-length-le}
 use lib.Seq.{drop-cons}
 use Rattle.card.specs.Row.{rowBytes, putRegs, zeros}
-use Rattle.card.specs.Registers.{hardwareReset}
+use Rattle.registers.specs.Registers.{hardwareReset}
 use Rattle.card.specs.Access.{freshRow}
 
 pub zeros-end : (s : List ℕ) (i : ℕ) → length s ≤ i → zeros (drop i s) ≡ true

@@ -7,8 +7,8 @@ use Prim.Native.Nat.{ℕ, suc, _+_, _*_, _-_, _<_, _≤_}
 use native.Mathlib.Omega.{arith}
 use lib.Dec.{eqb}
 use lib.ListN.{length, take, drop, set}
-use Rattle.card.specs.declared.regs.Regs.{Regs}
-use Rattle.card.specs.Words.{pick}
+use Rattle.registers.specs.declared.regs.Regs.{Regs}
+use Rattle.registers.specs.Words.{pick}
 use Rattle.line.specs.declared.step.Answer.{Answer}
 use Rattle.card.specs.Row.{rowBytes}
 use Rattle.table.specs.Network.{rowStart, rows, phase, LOST, regsAt, shape}

@@ -5,12 +5,12 @@ use mathlib.Core.Bool.{Bool, true, false}
 use mathlib.Core.List.{List}
 use Prim.Native.Nat.{ℕ, _<_}
 use lib.Dec.{eqb}
-use Rattle.card.specs.declared.regs.Regs.{Regs}
-use Rattle.card.specs.Words.{pick, has}
-use Rattle.card.specs.Registers.{hardwareReset}
-use Rattle.card.specs.Events.{burst}
-use Rattle.card.proofs.Registers.SameCard.{on-line-same, reset-off, same-burst}
-use Rattle.card.proofs.Registers.Loads.{prepared, named, sized, opened, joined, Loads, loads}
+use Rattle.registers.specs.declared.regs.Regs.{Regs}
+use Rattle.registers.specs.Words.{pick, has}
+use Rattle.registers.specs.Registers.{hardwareReset}
+use Rattle.registers.specs.Events.{burst}
+use Rattle.registers.proofs.Values.SameCard.{on-line-same, reset-off, same-burst}
+use Rattle.registers.proofs.Values.Loads.{prepared, named, sized, opened, joined, Loads, loads}
 use Rattle.table.specs.Network.{rows, phase, LOST, regsAt, onLineAt, isNode, shape}
 use Rattle.table.specs.Calls.{netWriteNumber, netAfterWrite}
 use Rattle.table.proofs.Online.Nodes.{online-is}

@@ -11,14 +11,14 @@ use lib.Dec.{eqb, ltb}
 use lib.ListN.{length}
 use borrow.Author.Tests.{ne-eqb, ltb-true, ltb-false}
 use Rattle.card.specs.Row.{regsOf}
-use Rattle.card.specs.Registers.{hardwareReset}
-use Rattle.card.specs.Numbers.{DONE, told}
-use Rattle.card.proofs.Told.Smallest.{refuse-held, refuse-passed, refuse-stays}
+use Rattle.registers.specs.Registers.{hardwareReset}
+use Rattle.registers.specs.Numbers.{DONE, told}
+use Rattle.registers.proofs.Told.Smallest.{refuse-held, refuse-passed, refuse-stays}
 use Rattle.table.specs.Numbers.{ROOM}
 use Rattle.card.specs.Access.{freshRow}
-use Rattle.card.proofs.Words.Bools.{cases}
+use Rattle.registers.proofs.Words.Bools.{cases}
 use Rattle.card.proofs.Rows.WellFormed.{fresh-off}
-use Rattle.card.proofs.Registers.Loads.{regs-fresh}
+use Rattle.card.proofs.Rows.WellFormed.{regs-fresh}
 use Rattle.table.specs.Network.{rows, phase, LOST, rowAt, regsAt, onLineAt, isNode, shape, rowStart}
 use Rattle.table.specs.Calls.{netAfterFresh, freshNet}
 use Rattle.table.proofs.Folds.{clash}

@@ -5,7 +5,7 @@ use mathlib.Core.Bool.{true}
 use mathlib.Core.List.{List}
 use Prim.Native.Nat.{ℕ, _<_}
 use lib.ListN.{getD}
-use Rattle.card.proofs.Words.Bools.{pick-of}
+use Rattle.registers.proofs.Words.Bools.{pick-of}
 use Rattle.table.specs.Network.{shape}
 use Rattle.table.proofs.Shaped.Alike.{bytes-rams}
 use Rattle.table.proofs.Access.ShapeCalls.{shape-read, shape-write, shape-reset, shape-timer, shape-fresh-call}

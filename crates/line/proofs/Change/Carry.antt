@@ -5,15 +5,16 @@ use mathlib.Core.Bool.{Bool, true, false, not, _&&_, _||_}
 use mathlib.Core.List.{List}
 use Prim.Native.Nat.{ℕ, _+_, _≤_}
 use lib.Dec.{eqb}
-use Rattle.card.specs.declared.regs.Regs.{Regs}
+use Rattle.registers.specs.declared.regs.Regs.{Regs}
 use Rattle.card.specs.declared.packets.Packet.{Packet}
-use Rattle.card.specs.Words.{pick}
+use Rattle.registers.specs.Words.{pick}
 use Rattle.card.specs.Row.{rowBytes, regsOf, putRegs, wellFormed}
 use Rattle.card.specs.Packets.{pageAt, pageBytes, stored}
-use Rattle.card.specs.Events.{received, receiving, takesBroadcasts, receivePage, storable}
-use Rattle.card.proofs.Words.Bools.{and-left, and-right}
+use Rattle.registers.specs.Events.{received, receiving, takesBroadcasts, receivePage}
+use Rattle.card.specs.Packets.{storable}
+use Rattle.registers.proofs.Words.Bools.{and-left, and-right}
 use Rattle.card.proofs.Rows.Bytes.{well-fit}
-use Rattle.card.proofs.Registers.Fits.{fit-rules}
+use Rattle.registers.proofs.Values.Fits.{fit-rules}
 use Rattle.card.proofs.Pages.Waiting.{receive-room}
 use Rattle.table.specs.Network.{rowAt, regsAt}
 use Rattle.line.specs.Traffic.{storedRow, carriedRow}

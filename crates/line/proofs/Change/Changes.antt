@@ -6,13 +6,14 @@ use mathlib.Core.List.{List, [], _∷_}
 use Prim.Native.Nat.{ℕ, _≤_, _<_}
 use lib.Dec.{eqb}
 use lib.ListN.{length}
-use Rattle.card.specs.declared.regs.Regs.{Regs}
+use Rattle.registers.specs.declared.regs.Regs.{Regs}
 use Rattle.card.specs.declared.packets.Packet.{Packet}
 use Rattle.line.specs.declared.passes.Event.{Event}
 use Rattle.line.specs.declared.passes.Event.the-variants.{Recovery, Message, Taken}
-use Rattle.card.specs.Words.{pick}
+use Rattle.registers.specs.Words.{pick}
 use Rattle.card.specs.Packets.{dataAt, stamped}
-use Rattle.card.specs.Events.{heard, risenNid, cancelled, sent, enquired, transmitting, receiving, transmitPage, storable}
+use Rattle.registers.specs.Events.{heard, risenNid, cancelled, sent, enquired, transmitting, receiving, transmitPage}
+use Rattle.card.specs.Packets.{storable}
 use Rattle.card.proofs.Rows.Rams.{Small}
 use Rattle.table.specs.Network.{phase, holder, LOST, PASS, TAKEN, turned, onRegs, regsAt}
 use Rattle.line.specs.Traffic.{onRow, happens, happened, takes, carriedRow, carried, stampedNet}

@@ -9,15 +9,15 @@ use native.Mathlib.Omega.{arith}
 use lib.Dec.{eqb}
 use lib.ListN.{length, getD}
 use borrow.Author.Tests.{eqb-true, eqb-false, eq-eqb, ne-eqb}
-use Rattle.card.specs.declared.regs.Regs.{Regs}
+use Rattle.registers.specs.declared.regs.Regs.{Regs}
 use Rattle.line.specs.declared.passes.Event.{Event}
 use Rattle.line.specs.declared.passes.Event.the-variants.{Recovery, Message, Taken}
-use Rattle.card.specs.Words.{pick}
+use Rattle.registers.specs.Words.{pick}
 use Rattle.card.specs.Row.{rowBytes, regsOf, wellFormed}
 use Rattle.card.specs.Packets.{stamped}
-use Rattle.card.proofs.Words.Bools.{cases}
+use Rattle.registers.proofs.Words.Bools.{cases}
 use Rattle.card.proofs.Rows.Bytes.{length-put, regs-put, well-fit}
-use Rattle.card.proofs.Registers.Fits.{Fit, fit-rules}
+use Rattle.registers.proofs.Values.Fits.{Fit, fit-rules}
 use Rattle.card.proofs.Rows.WellFormed.{well-stamped, regs-stamped}
 use Rattle.card.proofs.Pages.Stored.{length-stamped}
 use Rattle.card.proofs.Rows.Rams.{ram-stamped}

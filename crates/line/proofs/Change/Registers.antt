@@ -7,17 +7,18 @@ use Prim.Native.Nat.{ℕ}
 use native.Mathlib.Omega.{arith}
 use lib.Dec.{eqb}
 use lib.ListN.{length}
-use Rattle.card.specs.declared.regs.Regs.{Regs}
+use Rattle.registers.specs.declared.regs.Regs.{Regs}
 use Rattle.line.specs.declared.passes.Event.{Event}
 use Rattle.line.specs.declared.passes.Event.the-variants.{Recovery, Message, Taken}
-use Rattle.card.specs.Row.{rowBytes, regsOf, putRegs, onLine, wellFormed}
-use Rattle.card.specs.Events.{heard, risenNid, received, cancelled, sent, enquired}
-use Rattle.card.proofs.Words.Bools.{pick-of}
+use Rattle.card.specs.Row.{rowBytes, regsOf, putRegs, wellFormed}
+use Rattle.registers.specs.Fit.{onLine}
+use Rattle.registers.specs.Events.{heard, risenNid, received, cancelled, sent, enquired}
+use Rattle.registers.proofs.Words.Bools.{pick-of}
 use Rattle.card.proofs.Rows.Bytes.{regs-put}
-use Rattle.card.proofs.Registers.Fits.{Fit}
-use Rattle.card.proofs.Registers.FitEvents.{fit-heard, fit-answered, fit-recovered, fit-risen, fit-received, fit-cancelled, fit-sent}
-use Rattle.card.proofs.Registers.SameCard as card
-use Rattle.card.proofs.Pages.Waiting.{enquired-nak, enquired-unanswered}
+use Rattle.registers.proofs.Values.Fits.{Fit}
+use Rattle.registers.proofs.Values.FitEvents.{fit-heard, fit-answered, fit-recovered, fit-risen, fit-received, fit-cancelled, fit-sent}
+use Rattle.registers.proofs.Values.SameCard as card
+use Rattle.registers.proofs.Values.Ends.{enquired-nak, enquired-unanswered}
 use Rattle.card.proofs.Rows.WellFormed.{well-regs}
 use Rattle.card.proofs.Rows.Rams.{ram-put}
 use Rattle.line.specs.Traffic.{happens}

@@ -9,10 +9,11 @@ use lib.ListN.{length}
 use Rattle.card.specs.declared.packets.Packet.{Packet}
 use Rattle.card.specs.Row.{rowBytes, regsOf, wellFormed}
 use Rattle.card.specs.Packets.{dataAt, pageBytes, pageAt, stored}
-use Rattle.card.specs.Events.{received, receiving, receivePage, storable}
-use Rattle.card.proofs.Words.Bools.{and-left, and-right, pick-of}
+use Rattle.registers.specs.Events.{received, receiving, receivePage}
+use Rattle.card.specs.Packets.{storable}
+use Rattle.registers.proofs.Words.Bools.{and-left, and-right, pick-of}
 use Rattle.card.proofs.Rows.Bytes.{length-put, well-fit}
-use Rattle.card.proofs.Registers.Fits.{fit-rules}
+use Rattle.registers.proofs.Values.Fits.{fit-rules}
 use Rattle.card.proofs.Pages.Waiting.{receive-room}
 use Rattle.card.proofs.Pages.Stored.{length-stored}
 use Rattle.card.proofs.Rows.WellFormed.{well-stored, regs-stored}

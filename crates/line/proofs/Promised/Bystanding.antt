@@ -8,21 +8,23 @@ use native.Mathlib.Omega.{arith}
 use lib.Dec.{eqb}
 use lib.ListN.{length}
 use borrow.Author.Tests.{eqb-true}
-use Rattle.card.specs.declared.regs.Regs.{Regs}
+use Rattle.registers.specs.declared.regs.Regs.{Regs}
 use Rattle.card.specs.declared.packets.Packet.{Packet}
 use Rattle.line.specs.declared.passes.Event.{Event}
 use Rattle.line.specs.declared.passes.Event.the-variants.{Recovery, Message, Taken}
-use Rattle.card.specs.Words.{pick}
+use Rattle.registers.specs.Words.{pick}
 use Rattle.card.specs.Row.{rowBytes, regsOf, putRegs, wellFormed}
 use Rattle.card.specs.Packets.{pageBytes, pageAt}
-use Rattle.card.specs.Events.{receiving, receivePage, storable}
+use Rattle.registers.specs.Events.{receiving, receivePage}
+use Rattle.card.specs.Packets.{storable}
 use Rattle.card.specs.Bystander.{Bystander, Storing}
-use Rattle.card.proofs.Words.Bools.{and-left, and-right, pick-of, or-false}
+use Rattle.registers.proofs.Words.Bools.{and-left, and-right, pick-of, or-false}
 use Rattle.card.proofs.Rows.Bytes.{regs-put, well-fit}
-use Rattle.card.proofs.Registers.Fits.{fit-rules}
+use Rattle.registers.proofs.Values.Fits.{fit-rules}
 use Rattle.card.proofs.Pages.Stored.{length-stored}
 use Rattle.card.proofs.Pages.Waiting.{receive-room}
-use Rattle.card.proofs.Rows.Bystanders.{Listens, listens-same, listens-recovered, listens-heard, listens-answered, reached-risen, takes-same, storable-same, bystander-same, bystander-then, bystander-put, stores-after, stores-then, stores-stored}
+use Rattle.registers.proofs.Values.Listens.{Listens, listens-same, listens-recovered, listens-heard, listens-answered, reached-risen, takes-same}
+use Rattle.card.proofs.Rows.Bystanders.{storable-same, bystander-same, bystander-then, bystander-put, stores-after, stores-then, stores-stored}
 use Rattle.table.specs.Network.{rows, phase, holder, TAKEN, rowAt, regsAt, shape}
 use Rattle.line.specs.Traffic.{happens, storedRow, takes, carriedRow}
 use Rattle.line.specs.Step.{step}

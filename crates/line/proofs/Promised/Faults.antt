@@ -11,10 +11,11 @@ use borrow.Author.Tests.{eqb-true, eqb-false, le-ltb}
 use Rattle.line.specs.declared.traffic.Outcome.{Outcome}
 use Rattle.line.specs.declared.step.Answer.{Answer}
 use Rattle.line.specs.declared.step.Answer.the-variants.{Held}
-use Rattle.card.specs.Words.{pick}
+use Rattle.registers.specs.Words.{pick}
 use Rattle.card.specs.Packets.{malformed, pageShape, destination}
-use Rattle.card.specs.Events.{cancelled, transmitting, receiving, transmitPage, storable}
-use Rattle.card.proofs.Words.Bools.{cases, pick-of}
+use Rattle.registers.specs.Events.{cancelled, transmitting, receiving, transmitPage}
+use Rattle.card.specs.Packets.{storable}
+use Rattle.registers.proofs.Words.Bools.{cases, pick-of}
 use Rattle.table.specs.Network.{rows, phase, holder, LOST, PASS, rowAt, regsAt, nodeOf}
 use Rattle.line.specs.Traffic.{Turn, onRow, wentOut, broadcastTurn, packetTurn, enquiryTurn, tryTurn, takenTurn}
 use Rattle.line.specs.Step.{taker, passTurn, held, stepTurn, stepRefusals, stepNumber, step}

@@ -9,7 +9,7 @@ use native.Mathlib.Omega.{arith}
 use lib.Dec.{eqb}
 use lib.ListN.{length}
 use borrow.Author.Tests.{eqb-true, eqb-false, eq-eqb, not-true}
-use Rattle.card.specs.declared.regs.Regs.{Regs}
+use Rattle.registers.specs.declared.regs.Regs.{Regs}
 use Rattle.card.specs.declared.packets.Packet.{Packet}
 use Rattle.line.specs.declared.passes.Event.{Event}
 use Rattle.line.specs.declared.passes.Event.the-variants.{Recovery, Message, Taken}
@@ -17,16 +17,17 @@ use Rattle.line.specs.declared.traffic.Outcome.{Outcome}
 use Rattle.line.specs.declared.traffic.Outcome.the-variants.{Nothing, Malformed, Broadcast, NoAnswer, Nak, Delivered, Unacknowledged}
 use Rattle.line.specs.declared.step.Answer.the-variants.{Held}
 use Rattle.card.specs.Row.{rowBytes, regsOf}
-use Rattle.card.specs.Events.{cancelled, sent, transmitting, receiving, storable, takesBroadcasts}
+use Rattle.registers.specs.Events.{cancelled, sent, transmitting, receiving, takesBroadcasts}
+use Rattle.card.specs.Packets.{storable}
 use Rattle.card.specs.Bystander.{Sends}
-use Rattle.card.proofs.Words.Bools.{cases, and-left, and-right, pick-of}
+use Rattle.registers.proofs.Words.Bools.{cases, and-left, and-right, pick-of}
 use Rattle.card.proofs.Rows.Bytes.{regs-put, put-rest}
-use Rattle.card.proofs.Registers.Fits.{Fit}
-use Rattle.card.proofs.Pages.Waiting.{enquired-nak, enquired-unanswered}
+use Rattle.registers.proofs.Values.Fits.{Fit}
+use Rattle.registers.proofs.Values.Ends.{enquired-nak, enquired-unanswered}
 use Rattle.card.proofs.Rows.WellFormed.{regs-stamped}
 use Rattle.card.proofs.Rows.Bystanders.{stamped-other}
-use Rattle.card.proofs.Registers.Ends.{is-sent, heard-status, waits, idle, cancelled-tma}
-use Rattle.card.proofs.Registers.FitEvents.{fit-cancelled}
+use Rattle.registers.proofs.Values.Ends.{is-sent, heard-status, waits, idle, cancelled-tma}
+use Rattle.registers.proofs.Values.FitEvents.{fit-cancelled}
 use Rattle.table.specs.Network.{phase, holder, TAKEN, rowAt, onRegs, regsAt, shape}
 use Rattle.line.specs.Traffic.{happens, carriedRow}
 use Rattle.line.specs.Step.{step}

@@ -7,12 +7,12 @@ use Prim.Native.Nat.{ℕ, _<_}
 use native.Mathlib.Omega.{arith}
 use lib.Dec.{eqb, ltb}
 use borrow.Author.Tests.{eqb-true, eqb-false, ne-eqb, ltb-true}
-use Rattle.card.specs.declared.regs.Regs.{Regs}
+use Rattle.registers.specs.declared.regs.Regs.{Regs}
 use Rattle.line.specs.declared.passes.Event.the-variants.{Recovery, Message, Taken}
 use Rattle.line.specs.declared.step.Answer.{Answer}
 use Rattle.line.specs.declared.step.Answer.the-variants.{Refused, Quiet, Recovered, Passed, Unanswered, TokenLost, Held}
-use Rattle.card.specs.Events.{risenNid}
-use Rattle.card.proofs.Words.Bools.{pick-of}
+use Rattle.registers.specs.Events.{risenNid}
+use Rattle.registers.proofs.Words.Bools.{pick-of}
 use Rattle.table.specs.Network.{rows, phase, holder, LOST, PASS, TAKEN, topId, shape, SameFrame}
 use Rattle.line.specs.Traffic.{Turn}
 use Rattle.line.specs.Step.{destroyed, highest, lostTurn, invited, taker, passTurn, stepTurn, stepNumber, step}

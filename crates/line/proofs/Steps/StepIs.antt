@@ -10,12 +10,12 @@ use borrow.Author.Tests.{eqb-false, eq-eqb, ne-eqb, ltb-true, lt-ltb, le-ltb}
 use Rattle.line.specs.declared.passes.Event.the-variants.{Recovery, Message, Taken}
 use Rattle.line.specs.declared.step.Answer.{Answer}
 use Rattle.line.specs.declared.step.Answer.the-variants.{Recovered, Passed, Unanswered}
-use Rattle.card.specs.Numbers.{DONE, VALUE}
-use Rattle.card.proofs.Told.Smallest.{refuse-passed}
+use Rattle.registers.specs.Numbers.{DONE, VALUE}
+use Rattle.registers.proofs.Told.Smallest.{refuse-passed}
 use Rattle.table.specs.Numbers.{SHAPE}
 use Rattle.line.specs.Numbers.{HOLDER}
-use Rattle.card.specs.Events.{risenNid}
-use Rattle.card.proofs.Words.Bools.{cases, pick-of}
+use Rattle.registers.specs.Events.{risenNid}
+use Rattle.registers.proofs.Words.Bools.{cases, pick-of}
 use Rattle.table.specs.Network.{rows, phase, holder, LOST, PASS, TAKEN, turned, topId, shape, onLineAt}
 use Rattle.line.specs.Traffic.{Turn, onRow, happened, takenTurn}
 use Rattle.line.specs.Step.{highest, lostTurn, invited, taker, passTurn, held, stepTurn, stepRefusals, stepNumber, step, answerValue}

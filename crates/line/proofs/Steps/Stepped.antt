@@ -8,13 +8,13 @@ use Prim.Native.Nat.{ℕ, _<_}
 use native.Mathlib.Omega.{arith}
 use borrow.Author.Tests.{eq-eqb, ne-eqb, eqb-true, eqb-false, not-false}
 use lib.Dec.{eqb, ltb}
-use Rattle.card.specs.declared.regs.Regs.{Regs}
+use Rattle.registers.specs.declared.regs.Regs.{Regs}
 use Rattle.line.specs.declared.step.Answer.{Answer}
 use Rattle.line.specs.declared.step.Answer.the-variants.{Refused}
-use Rattle.card.specs.Row.{onLine}
-use Rattle.card.specs.Numbers.{DONE, VALUE, refuse}
-use Rattle.card.proofs.Words.Bools.{cases, pick-of}
-use Rattle.card.proofs.Told.Smallest.{refuse-held, refuse-passed, refuse-stays, none-refuses}
+use Rattle.registers.specs.Fit.{onLine}
+use Rattle.registers.specs.Numbers.{DONE, VALUE, refuse}
+use Rattle.registers.proofs.Words.Bools.{cases, pick-of}
+use Rattle.registers.proofs.Told.Smallest.{refuse-held, refuse-passed, refuse-stays, none-refuses}
 use Rattle.table.specs.Numbers.{SHAPE}
 use Rattle.line.specs.Numbers.{HOLDER}
 use Rattle.table.specs.Network.{rows, phase, holder, LOST, PASS, regsAt, onLineAt, topId, shape}

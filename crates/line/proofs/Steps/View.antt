@@ -7,13 +7,13 @@ use Prim.Native.Nat.{ℕ, _+_, _%_, _≤_, _<_}
 use native.Mathlib.Omega.{arith}
 use lib.Dec.{lit<}
 use lib.ListN.{length}
-use Rattle.card.specs.declared.regs.Regs.{Regs}
+use Rattle.registers.specs.declared.regs.Regs.{Regs}
 use Rattle.line.specs.declared.passes.Event.the-variants.{Recovery, Message, Taken}
 use Rattle.line.specs.declared.traffic.Outcome.{Outcome}
 use Rattle.line.specs.declared.step.Answer.{Answer}
 use Rattle.line.specs.declared.step.Answer.the-variants.{Recovered, Passed, Unanswered, Held}
-use Rattle.card.specs.Row.{onLine}
-use Rattle.card.proofs.Registers.SameCard.{is-recovered, is-risen}
+use Rattle.registers.specs.Fit.{onLine}
+use Rattle.registers.proofs.Values.SameCard.{is-recovered, is-risen}
 use Rattle.table.specs.Network.{headerBytes, rows, phase, holder, LOST, PASS, TAKEN, turned, regsAt, onLineAt, topId, shape}
 use Rattle.line.specs.Traffic.{Turn, happened, takenTurn}
 use Rattle.line.specs.Step.{highest, invited, taker, step}

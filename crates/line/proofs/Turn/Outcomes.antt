@@ -7,15 +7,16 @@ use Prim.Native.Nat.{ℕ, _≤_, _<_}
 use native.Mathlib.Omega.{arith}
 use borrow.Author.Tests.{le-ltb, lt-ltb}
 use lib.Dec.{eqb, ltb}
-use Rattle.card.specs.declared.regs.Regs.{Regs}
+use Rattle.registers.specs.declared.regs.Regs.{Regs}
 use Rattle.card.specs.declared.packets.Shape.{Shape}
 use Rattle.line.specs.declared.passes.Event.the-variants.{Message}
 use Rattle.line.specs.declared.traffic.Outcome.{Outcome}
 use Rattle.line.specs.declared.traffic.Outcome.the-variants.{Broadcast, NoAnswer, Nak, Delivered, Unacknowledged}
-use Rattle.card.specs.Words.{pick}
+use Rattle.registers.specs.Words.{pick}
 use Rattle.card.specs.Packets.{pageShape}
 use Rattle.card.specs.Row.{putRegs}
-use Rattle.card.specs.Events.{heard, sent, enquired, receiving, storable}
+use Rattle.registers.specs.Events.{heard, sent, enquired, receiving}
+use Rattle.card.specs.Packets.{storable}
 use Rattle.table.specs.Network.{rows, rowAt, setRow, eachRow, onRegs, regsAt}
 use Rattle.line.specs.Traffic.{happens, acknowledged, wentOut, broadcastTurn, packetTurn, asked, enquiryTurn}
 use Rattle.line.proofs.Turn.Sends.{is-happened, put-after}

@@ -8,18 +8,19 @@ use Prim.Native.Nat.{ℕ, _<_}
 use native.Mathlib.Omega.{arith}
 use lib.Dec.{eqb, ltb}
 use borrow.Author.Tests.{eqb-true, ltb-true, ltb-false}
-use Rattle.card.specs.declared.regs.Regs.{Regs}
+use Rattle.registers.specs.declared.regs.Regs.{Regs}
 use Rattle.card.specs.declared.packets.Shape.{Shape}
 use Rattle.line.specs.declared.passes.Event.the-variants.{Message}
 use Rattle.line.specs.declared.traffic.Outcome.{Outcome}
 use Rattle.line.specs.declared.traffic.Outcome.the-variants.{Nothing, Malformed, Broadcast, NoAnswer, Nak, Delivered, Unacknowledged}
-use Rattle.card.specs.Words.{pick}
+use Rattle.registers.specs.Words.{pick}
 use Rattle.card.specs.Row.{regsOf}
 use Rattle.card.specs.Packets.{malformed, pageShape, destination, packetAt}
-use Rattle.card.specs.Events.{cancelled, transmitting, receiving, transmitPage, storable}
-use Rattle.card.proofs.Words.Bools.{cases, and-false, or-false, pick-of}
-use Rattle.card.proofs.Pages.Waiting.{transmit-page-small}
-use Rattle.card.proofs.Registers.Ends.{page-of}
+use Rattle.registers.specs.Events.{cancelled, transmitting, receiving, transmitPage}
+use Rattle.card.specs.Packets.{storable}
+use Rattle.registers.proofs.Words.Bools.{cases, and-false, or-false, pick-of}
+use Rattle.registers.proofs.Values.Ends.{transmit-page-small}
+use Rattle.registers.proofs.Values.Ends.{page-of}
 use Rattle.card.proofs.Pages.Stored.{length-stamped}
 use Rattle.card.proofs.Pages.Packets.{packet-full, packet-count}
 use Rattle.card.proofs.Rows.Rams.{packet-bytes}

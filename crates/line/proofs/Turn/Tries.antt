@@ -7,15 +7,15 @@ use Prim.Native.Nat.{ℕ, _<_}
 use native.Mathlib.Omega.{arith}
 use borrow.Author.Tests.{eq-eqb, ne-eqb}
 use lib.ListN.{length}
-use Rattle.card.specs.declared.regs.Regs.{Regs}
+use Rattle.registers.specs.declared.regs.Regs.{Regs}
 use Rattle.card.specs.declared.packets.Shape.{Shape}
 use Rattle.line.specs.declared.traffic.Outcome.{Outcome}
 use Rattle.line.specs.declared.traffic.Outcome.the-variants.{Nothing, Malformed}
 use Rattle.card.specs.Row.{rowBytes, regsOf, putRegs}
 use Rattle.card.specs.Packets.{malformed, pageShape, destination}
-use Rattle.card.specs.Events.{cancelled, sent, transmitting, transmitPage}
+use Rattle.registers.specs.Events.{cancelled, sent, transmitting, transmitPage}
 use Rattle.card.proofs.Rows.Bytes.{length-put, regs-put}
-use Rattle.card.proofs.Pages.Waiting.{transmit-page-small}
+use Rattle.registers.proofs.Values.Ends.{transmit-page-small}
 use Rattle.table.specs.Network.{rows, rowAt, setRow, regsAt, nodeOf, shape}
 use Rattle.line.specs.Traffic.{onRow, broadcastTurn, enquiryTurn, tryTurn, takenTurn}
 use Rattle.table.proofs.Rows.Networks.{setRow-header, rowAt-setRow}

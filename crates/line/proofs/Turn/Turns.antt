@@ -7,13 +7,13 @@ use Prim.Native.Nat.{ℕ, _≤_, _<_}
 use native.Mathlib.Omega.{arith}
 use borrow.Author.Tests.{eq-eqb, ne-eqb, lt-ltb, le-ltb}
 use lib.Dec.{ltb}
-use Rattle.card.specs.declared.regs.Regs.{Regs}
+use Rattle.registers.specs.declared.regs.Regs.{Regs}
 use Rattle.line.specs.declared.passes.Event.the-variants.{Recovery, Message, Taken}
 use Rattle.line.specs.declared.traffic.Outcome.{Outcome}
 use Rattle.line.specs.declared.step.Answer.{Answer}
 use Rattle.line.specs.declared.step.Answer.the-variants.{Quiet, Recovered, Passed, Unanswered, TokenLost, Held}
 use Rattle.card.specs.Row.{putRegs}
-use Rattle.card.specs.Events.{risenNid}
+use Rattle.registers.specs.Events.{risenNid}
 use Rattle.table.specs.Network.{rows, phase, holder, LOST, PASS, TAKEN, turned, rowAt, setRow, eachRow, onRegs, regsAt, nodeOf, topId, shape}
 use Rattle.line.specs.Traffic.{happens, happened, takenTurn}
 use Rattle.line.specs.Step.{lostTurn, passTurn, invited, taker, stepTurn}

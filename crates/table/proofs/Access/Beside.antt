@@ -8,10 +8,10 @@ use native.Mathlib.Omega.{arith}
 use lib.Dec.{eqb, lit<}
 use lib.ListN.{length, getD}
 use Rattle.card.specs.Row.{rowBytes}
-use Rattle.card.specs.Registers.{hardwareReset}
+use Rattle.registers.specs.Registers.{hardwareReset}
 use Rattle.card.specs.Access.{rowAfterRead, rowAfterWrite, rowAfterReset}
-use Rattle.card.specs.Events.{burst}
-use Rattle.card.proofs.Words.Bools.{pick-of}
+use Rattle.registers.specs.Events.{burst}
+use Rattle.registers.proofs.Words.Bools.{pick-of}
 use Rattle.card.proofs.Rows.Bytes.{length-put}
 use Rattle.card.proofs.Rows.WellFormed.{length-read, length-write}
 use Rattle.table.specs.Network.{headerBytes, rowStart, rows, phase, LOST, turned, rowAt, setRow, onRegs, regsAt, onLineAt, shape}

@@ -8,17 +8,19 @@ use native.Mathlib.Omega.{arith}
 use lib.Dec.{eqb}
 use lib.ListN.{length}
 use borrow.Author.Tests.{eqb-true}
-use Rattle.card.specs.declared.regs.Regs.{Regs}
-use Rattle.card.specs.Row.{rowBytes, regsOf, onLine}
-use Rattle.card.specs.Registers.{hardwareReset}
+use Rattle.registers.specs.declared.regs.Regs.{Regs}
+use Rattle.card.specs.Row.{rowBytes, regsOf}
+use Rattle.registers.specs.Fit.{onLine}
+use Rattle.registers.specs.Registers.{hardwareReset}
 use Rattle.card.specs.Access.{rowAfterRead, rowAfterWrite, rowAfterReset}
-use Rattle.card.specs.Events.{burst}
-use Rattle.card.proofs.Words.Bools.{and-left, pick-of}
+use Rattle.registers.specs.Events.{burst}
+use Rattle.registers.proofs.Words.Bools.{and-left, pick-of}
 use Rattle.card.proofs.Rows.Bytes.{length-put, regs-put}
-use Rattle.card.proofs.Registers.SameCard.{on-line-same, same-burst}
+use Rattle.registers.proofs.Values.SameCard.{on-line-same, same-burst}
 use Rattle.card.proofs.Rows.WellFormed.{length-read, length-write}
 use Rattle.card.proofs.Rows.Rams.{ram-put}
-use Rattle.card.proofs.Rows.Touched.{reset-id, write-nid, write-id-byte, same-row, ram-read, ram-write}
+use Rattle.registers.proofs.Values.SameCard.{reset-id, write-nid, write-id-byte}
+use Rattle.card.proofs.Rows.Touched.{same-row, ram-read, ram-write}
 use Rattle.table.specs.Network.{rowStart, rows, LOST, turned, rowAt, setRow, onRegs, regsAt, onLineAt, shape, SameNodes}
 use Rattle.table.specs.Calls.{placeNumber, netReadNumber, netAfterRead, isHolder, settled, netWriteNumber, netAfterWrite, netAfterReset}
 use Rattle.table.proofs.Folds.{clash}

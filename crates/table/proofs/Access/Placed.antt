@@ -9,14 +9,14 @@ use lib.Dec.{leb}
 use lib.ListN.{length}
 use borrow.Author.Tests.{eq-eqb, ne-eqb, leb-false, lt-leb, not-false}
 use borrow.Rule.Slice.PartMut.{midOf, putMid}
-use Rattle.card.specs.declared.regs.Regs.{Regs}
-use Rattle.card.specs.Numbers.{DONE, Refusal, refuse, told, refuses}
+use Rattle.registers.specs.declared.regs.Regs.{Regs}
+use Rattle.registers.specs.Numbers.{DONE, Refusal, refuse, told, refuses}
 use Rattle.card.specs.Row.{rowBytes, putRegs}
-use Rattle.card.specs.Registers.{interrupt}
+use Rattle.registers.specs.Registers.{interrupt}
 use Rattle.card.specs.Access.{valueRead, rowAfterRead}
 use Rattle.card.specs.Packets.{pageData}
-use Rattle.card.specs.Events.{burst}
-use Rattle.card.proofs.Told.Smallest.{refuse-held, refuse-passed, refuse-stays, told-first, told-second, told-both, none-refuses}
+use Rattle.registers.specs.Events.{burst}
+use Rattle.registers.proofs.Told.Smallest.{refuse-held, refuse-passed, refuse-stays, told-first, told-second, told-both, none-refuses}
 use Rattle.table.specs.declared.calls.Reading.{Reading}
 use Rattle.table.specs.declared.calls.Interrupting.{Interrupting}
 use Rattle.table.specs.Numbers.{SHAPE, ROW}

@@ -6,15 +6,16 @@ use mathlib.Core.List.{List, [], _∷_}
 use Prim.Native.Nat.{ℕ, _<_}
 use lib.Dec.{eqb, ltb}
 use borrow.Author.Tests.{eq-eqb, ne-eqb}
-use Rattle.card.specs.declared.regs.Regs.{Regs}
-use Rattle.card.specs.Numbers.{DONE, _when_, refuse}
-use Rattle.card.specs.Row.{putRegs, onLine}
-use Rattle.card.specs.Registers.{afterWrite}
-use Rattle.card.specs.Refusals.{writeRefusals, writeNumber}
+use Rattle.registers.specs.declared.regs.Regs.{Regs}
+use Rattle.registers.specs.Numbers.{DONE, _when_, refuse}
+use Rattle.card.specs.Row.{putRegs}
+use Rattle.registers.specs.Fit.{onLine}
+use Rattle.registers.specs.Registers.{afterWrite}
+use Rattle.registers.specs.Refusals.{writeRefusals, writeNumber}
 use Rattle.card.specs.Access.{rowAfterWrite, rowAfterReset}
-use Rattle.card.specs.Events.{burst}
-use Rattle.card.proofs.Words.Bools.{and-assoc}
-use Rattle.card.proofs.Told.Smallest.{told-append}
+use Rattle.registers.specs.Events.{burst}
+use Rattle.registers.proofs.Words.Bools.{and-assoc}
+use Rattle.registers.proofs.Told.Smallest.{told-append}
 use Rattle.table.specs.Numbers.{DUPLICATE}
 use Rattle.table.specs.Network.{rows, phase, holder, LOST, turned, regsAt, onLineAt, nodeOf, shape, rowAt, setRow}
 use Rattle.table.specs.Calls.{placeNumber, isHolder, settled, duplicate, rowWriteRefusals, netWriteNumber, netAfterWrite, netAfterReset}

@@ -7,13 +7,13 @@ use Prim.Native.Nat.{ℕ, _≤_, _<_}
 use native.Mathlib.Omega.{arith}
 use lib.Dec.{eqb, ltb, lit<}
 use borrow.Author.Tests.{eqb-true, ltb-false}
-use Rattle.card.specs.Numbers.{_when_}
-use Rattle.card.specs.Row.{onLine}
-use Rattle.card.specs.Registers.{afterWrite, hardwareReset}
+use Rattle.registers.specs.Numbers.{_when_}
+use Rattle.registers.specs.Fit.{onLine}
+use Rattle.registers.specs.Registers.{afterWrite, hardwareReset}
 use Rattle.card.specs.Access.{rowAfterRead, rowAfterWrite, rowAfterReset}
-use Rattle.card.specs.Refusals.{writeRefusals, writeNumber}
-use Rattle.card.proofs.Words.Bools.{pick-of}
-use Rattle.card.proofs.Told.Smallest.{told-both, none-refuses}
+use Rattle.registers.specs.Refusals.{writeRefusals, writeNumber}
+use Rattle.registers.proofs.Words.Bools.{pick-of}
+use Rattle.registers.proofs.Told.Smallest.{told-both, none-refuses}
 use Rattle.card.proofs.Rows.Bytes.{length-put}
 use Rattle.card.proofs.Rows.WellFormed.{length-read, length-write, well-reset, well-write, well-fresh}
 use Rattle.card.proofs.Rows.WellFormed.{fresh-off}

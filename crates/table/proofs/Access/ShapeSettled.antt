@@ -9,9 +9,10 @@ use lib.Dec.{lit<}
 use lib.ListN.{length, getD, set, take, drop, length-set}
 use lib.Seq.{length-take-le, set-append-left, take-set-lt, drop-set-lt}
 use borrow.Author.Tests.{eq-eqb, ne-eqb}
-use Rattle.card.specs.Row.{rowBytes, regsOf, onLine, wellFormed}
-use Rattle.card.specs.Events.{burst}
-use Rattle.card.proofs.Words.Bools.{pick-of}
+use Rattle.card.specs.Row.{rowBytes, regsOf, wellFormed}
+use Rattle.registers.specs.Fit.{onLine}
+use Rattle.registers.specs.Events.{burst}
+use Rattle.registers.proofs.Words.Bools.{pick-of}
 use Rattle.card.proofs.Rows.Bytes.{length-put}
 use Rattle.table.specs.Network.{headerBytes, rowStart, rows, phase, holder, LOST, turned, rowAt, setRow, onRegs, onLineAt, isNode, shape}
 use Rattle.table.specs.Calls.{isHolder, settled}

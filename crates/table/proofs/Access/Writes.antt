@@ -9,14 +9,15 @@ use native.Mathlib.Omega.{arith}
 use lib.Dec.{eqb}
 use lib.ListN.{length}
 use borrow.Author.Tests.{eqb-false, le-ltb}
-use Rattle.card.specs.declared.regs.Regs.{Regs}
-use Rattle.card.proofs.Told.Smallest.{refuse-passed}
-use Rattle.card.specs.Row.{rowBytes, regsOf, onLine}
-use Rattle.card.specs.Registers.{afterWrite}
-use Rattle.card.specs.Refusals.{writeNumber}
+use Rattle.registers.specs.declared.regs.Regs.{Regs}
+use Rattle.registers.proofs.Told.Smallest.{refuse-passed}
+use Rattle.card.specs.Row.{rowBytes, regsOf}
+use Rattle.registers.specs.Fit.{onLine}
+use Rattle.registers.specs.Registers.{afterWrite}
+use Rattle.registers.specs.Refusals.{writeNumber}
 use Rattle.card.specs.Access.{rowAfterWrite}
-use Rattle.card.specs.Events.{burst}
-use Rattle.card.proofs.Words.Bools.{cases, and-false}
+use Rattle.registers.specs.Events.{burst}
+use Rattle.registers.proofs.Words.Bools.{cases, and-false}
 use Rattle.card.proofs.Rows.Bytes.{regs-put, length-put}
 use Rattle.card.proofs.Rows.WellFormed.{length-write}
 use Rattle.table.specs.Numbers.{DUPLICATE}

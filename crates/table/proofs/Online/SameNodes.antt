@@ -5,7 +5,8 @@ use mathlib.Core.Bool.{true}
 use mathlib.Core.List.{List}
 use Prim.Native.Nat.{ℕ, _<_}
 use native.Mathlib.Omega.{arith}
-use Rattle.card.specs.Row.{regsOf, onLine}
+use Rattle.card.specs.Row.{regsOf}
+use Rattle.registers.specs.Fit.{onLine}
 use Rattle.card.proofs.Pages.Packets.{Ram}
 use Rattle.table.specs.Network.{rows, phase, holder, regsAt, onLineAt, shape, SameNodes}
 use Rattle.table.proofs.Shaped.Kept.{Became}

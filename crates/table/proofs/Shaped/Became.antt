@@ -5,8 +5,9 @@ use mathlib.Core.Bool.{true}
 use mathlib.Core.List.{List}
 use Prim.Native.Nat.{ℕ, _<_}
 use lib.Dec.{lit<}
-use Rattle.card.specs.declared.regs.Regs.{Regs}
-use Rattle.card.specs.Row.{regsOf, onLine, wellFormed}
+use Rattle.registers.specs.declared.regs.Regs.{Regs}
+use Rattle.card.specs.Row.{regsOf, wellFormed}
+use Rattle.registers.specs.Fit.{onLine}
 use Rattle.card.proofs.Pages.Packets.{Ram}
 use Rattle.table.specs.Network.{rows, phase, holder, rowAt, onLineAt, shape}
 use Rattle.table.proofs.Shaped.Kept.{Kept, kept-same, Became, shape-became}

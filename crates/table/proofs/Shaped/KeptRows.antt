@@ -6,15 +6,16 @@ use mathlib.Core.List.{List}
 use Prim.Native.Nat.{ℕ}
 use native.Mathlib.Omega.{arith}
 use lib.ListN.{length}
-use Rattle.card.specs.declared.regs.Regs.{Regs}
-use Rattle.card.specs.Row.{rowBytes, regsOf, putRegs, onLine, wellFormed}
-use Rattle.card.specs.Registers.{pointer, afterWrite, hardwareReset}
+use Rattle.registers.specs.declared.regs.Regs.{Regs}
+use Rattle.card.specs.Row.{rowBytes, regsOf, putRegs, wellFormed}
+use Rattle.registers.specs.Fit.{onLine}
+use Rattle.registers.specs.Registers.{pointer, afterWrite, hardwareReset}
 use Rattle.card.specs.Access.{pointed, rowAfterRead, ramWritten, rowAfterWrite, rowAfterReset}
-use Rattle.card.specs.Events.{burst}
+use Rattle.registers.specs.Events.{burst}
 use Rattle.card.proofs.Rows.Bytes.{regs-put, well-fit}
-use Rattle.card.proofs.Registers.Fits.{fit-rules}
-use Rattle.card.proofs.Registers.FitEvents.{fit-burst}
-use Rattle.card.proofs.Registers.SameCard as card
+use Rattle.registers.proofs.Values.Fits.{fit-rules}
+use Rattle.registers.proofs.Values.FitEvents.{fit-burst}
+use Rattle.registers.proofs.Values.SameCard as card
 use Rattle.card.proofs.Rows.Accesses.{write-done, length-ram}
 use Rattle.card.proofs.Rows.WellFormed.{well-regs, well-read}
 use Rattle.card.proofs.Rows.Touched.{same-row}

@@ -1,14 +1,16 @@
 -- `card::packets::data_number` meets its contract. Assumes nothing.
 use borrow.Author.Needs.{needs}
 use borrow.Author.Tests.{lt-ltb, le-ltb}
-use Rattle.card.specs.Numbers.{refuse}
+use mathlib.Core.Path.{sym}
+use Rattle.registers.specs.Numbers.{VALUE}
+use Rattle.registers.proofs.Told.Smallest.{refuse-held}
 use Rattle.card.specs.Packets.{dataRefusals}
 use Rattle.card.proofs.packets.data_number.Statement.{statement}
 use Rattle.card.proofs.packets.data_number.Tie as tie
 
 returns : tie.Need-returns
-unfolding dataRefusals refuse
-returns c = simp (lt-ltb _ _ (c .if1 .taken))
+unfolding dataRefusals
+returns c = sym (refuse-held VALUE _ (simp (lt-ltb _ _ (c .if1 .taken))))
 
 returns-2 : tie.Need-returns-2
 unfolding dataRefusals

@@ -1,6 +1,6 @@
 -- `line::traffic::broadcast` meets its contract. Assumes nothing.
 use mathlib.Core.Path.{refl}
-use Rattle.card.specs.Events.{sent}
+use Rattle.registers.specs.Events.{sent}
 use Rattle.table.proofs.Shaped.Bounds.{bounds}
 use Rattle.line.proofs.Turn.Outcomes.{is-broadcast}
 use borrow.Author.Needs.{needs}

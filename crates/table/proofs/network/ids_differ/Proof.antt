@@ -5,7 +5,7 @@ use mathlib.Core.Path.{sym, _∙_, ap}
 use Prim.Native.Nat.{_-_, _<_}
 use native.Mathlib.Omega.{arith}
 use borrow.Author.Needs.{needs}
-use Rattle.card.specs.declared.regs.Regs.{Regs}
+use Rattle.registers.specs.declared.regs.Regs.{Regs}
 use Rattle.table.proofs.Online.Nodes.{online-is}
 use Rattle.table.proofs.Online.Seen.{Seen, begin, ends, off, on, twice}
 use Rattle.table.proofs.network.ids_differ.Statement.{statement}

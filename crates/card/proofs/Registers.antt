@@ -1,9 +1,0 @@
--- Registers by value: those that fit, what each call and event leaves of them, and the command table.
-pub mod Fits
-pub mod FitBytes
-pub mod FitEvents
-pub mod FitCalls
-pub mod SameCard
-pub mod Ends
-pub mod Loads
-pub mod Legal

@@ -1,0 +1,11 @@
+-- `registers::regs::Regs::hardware_reset` meets its contract. Assumes nothing.
+use Rattle.registers.specs.Registers.{hardwareReset}
+use borrow.Author.Needs.{needs}
+use Rattle.registers.proofs.regs.Regs.hardware_reset.Statement.{statement}
+use Rattle.registers.proofs.regs.Regs.hardware_reset.Tie as tie
+
+pub hardware-reset-spec : {M : Type 1} → statement M
+unfolding hardwareReset
+hardware-reset-spec =
+    tie.close
+    (tie.spec (λ c. search needs))

@@ -1,0 +1,23 @@
+-- `registers::regs::Regs::odd_page` meets its contract, command by command. Assumes nothing.
+use borrow.Author.Needs.{needs}
+use Rattle.registers.proofs.regs.Regs.odd_page.Statement.{statement}
+use Rattle.registers.proofs.regs.Regs.odd_page.Tie as tie
+
+returns-4 : tie.Need-returns-4
+returns-4 c = simp (c .before .before .command .given .1)
+
+returns-5 : tie.Need-returns-5
+returns-5 c = simp (c .before .before .command2 .given .1)
+
+returns-6 : tie.Need-returns-6
+returns-6 c = simp (c .enum-told4 .given .1)
+
+returns-7 : tie.Need-returns-7
+returns-7 c = simp (c .enum-told5 .given .1)
+
+pub odd-page-spec : {M : Type 1} → statement M
+odd-page-spec =
+    tie.close
+    (tie.spec (λ c. search needs) (λ c. search needs) (λ c. search needs) (λ c. search needs)
+    (λ c. search needs) (λ c. search needs) (λ c. search needs) (λ c. search needs) (λ c. search needs)
+    (λ c. search needs) returns-4 returns-5 returns-6 returns-7)

@@ -1,0 +1,75 @@
+-- Document 01, "One line step": what the line does to one card's registers, and what it asks of them.
+-- Assumes nothing.
+use mathlib.Core.Bool.{Bool, false, not, _&&_}
+use Prim.Native.Nat.{ℕ, _+_, _%_}
+use lib.Dec.{eqb}
+use Rattle.registers.specs.declared.regs.Regs.{Regs}
+use Rattle.registers.specs.Words.{pick, clear, has, raise, raiseIf, lower}
+use Rattle.registers.specs.Flags.{RI, RECON, TMA, TA, MYRECON, DUPID, RCVACT, TOKEN, TENTID, CANCEL, BROADCASTS}
+use Rattle.registers.specs.Fields.{with-status, with-diagnostic, with-nid, with-transmit, with-receive}
+use Rattle.registers.specs.Fit.{awake, onLine}
+
+-- "A row that comes on line bursts: its MYRECON is set .. So does a timer expiry"
+unfoldable pub burst : Regs → Regs
+burst g = with-diagnostic (raise MYRECON (g .diagnostic)) g
+
+-- "RECON is set in every awake row, each on-line row's NID becomes its own ID"
+unfoldable pub recovered : Regs → Regs
+recovered g = with-status (raiseIf (awake g) RECON (g .status)) (with-nid (pick (onLine g) (g .id) (g .nid)) g)
+
+-- an invitation: "Other awake rows get RCVACT and TOKEN"; one that fault 3 destroys: "RCVACT only"; "An enquiry or packet sets RCVACT in the other awake
+-- rows, and in the holder if ACK or NAK answered"
+unfoldable pub heard : Regs → Bool → Regs
+heard g token = with-diagnostic (raiseIf (awake g && token) TOKEN (raiseIf (awake g) RCVACT (g .diagnostic))) g
+
+-- "awake rows with that node ID, the taker too (house), get DUPID, and awake rows other than the taker whose tentative ID is that number get TENTID"
+unfoldable pub answered : Regs → ℕ → Bool → Regs
+answered g n taker =
+    with-diagnostic
+    (raiseIf (awake g && not taker && eqb (g .tentative) n) TENTID (raiseIf (awake g && eqb (g .id) n) DUPID (g .diagnostic))) g
+
+-- "NID rises by one, 255 to 0"
+unfoldable pub risenNid : Regs → Regs
+risenNid g = with-nid ((g .nid + 1) % 256) g
+
+-- "RI = 1, byte 14 zero"
+unfoldable pub received : Regs → Regs
+received g = with-status (raise RI (g .status)) (with-receive 0 g)
+
+-- "cancels asked in the holder's row take effect first (transmit: TA = 1; receive: RI = 1, byte 14 zero)"; "wherever TA becomes 1, byte 13
+-- becomes zero"
+abbrev pub transmitCancelled : Regs → Regs
+transmitCancelled g = pick (clear CANCEL (g .transmit)) g (with-status (raise TA (g .status)) (with-transmit 0 g))
+
+abbrev pub receiveCancelled : Regs → Regs
+receiveCancelled g = pick (clear CANCEL (g .receive)) g (received g)
+
+unfoldable pub cancelled : Regs → Regs
+cancelled g = receiveCancelled (transmitCancelled g)
+
+-- a transmit ends: "TA = 1 and TMA = 1", or "TA = 1, TMA = 0"; byte 13 zero. Where 01 says "TA = 1" alone (Malformed, Broadcast, NoAnswer) TMA is 0 already:
+-- TA was 0
+unfoldable pub sent : Regs → Bool → Regs
+sent g acknowledged = with-status (raise TA (pick acknowledged (raise TMA (g .status)) (lower TMA (g .status)))) (with-transmit 0 g)
+
+-- an enquiry that no packet followed: "NAK, TA stays 0", and "RCVACT .. in the holder if ACK or NAK answered"; or "NoAnswer, TA = 1"
+unfoldable pub enquired : Regs → Bool → Regs
+enquired g nak = pick nak (heard g false) (sent g false)
+
+-- a transmit waits: TA is 0; the receiver is enabled: RI is 0
+unfoldable pub transmitting : Regs → Bool
+transmitting g = clear TA (g .status)
+
+unfoldable pub receiving : Regs → Bool
+receiving g = clear RI (g .status)
+
+-- "awake row .. with RI = 0 and broadcasts wanted"
+unfoldable pub takesBroadcasts : Regs → Bool
+takesBroadcasts g = awake g && receiving g && has BROADCASTS (g .receive)
+
+-- "bits 1-0 page"
+unfoldable pub transmitPage : Regs → ℕ
+transmitPage g = g .transmit % 4
+
+unfoldable pub receivePage : Regs → ℕ
+receivePage g = g .receive % 4

@@ -1,0 +1,10 @@
+pub mod Words
+pub mod Numbers
+pub mod Flags
+pub mod Fields
+pub mod Fit
+pub mod Commands
+pub mod Registers
+pub mod Refusals
+pub mod Events
+pub mod SameBut

@@ -1,0 +1,75 @@
+-- Document 01, "Numbers a caller may get": the card's own numbers, a call's refusals, and the number that is told.
+-- Assumes nothing.
+use mathlib.Core.Path.{_≡_}
+use mathlib.Core.Bool.{Bool, true, false, _&&_}
+use mathlib.Core.List.{List, [], _∷_}
+use Prim.Native.Nat.{ℕ, _≤_}
+use lib.Dec.{eqb, ltb}
+use Rattle.registers.specs.Words.{pick}
+
+-- "0 DONE"
+abbrev pub DONE : ℕ
+DONE = 0
+
+-- "above 7; 5; 7 with sub-address 11; write of 7 and read of 7 alike"
+abbrev pub REGISTER : ℕ
+REGISTER = 3
+
+-- "unnamed bit, CCHEN, illegal command, fault above 3, fresh n not 1-60; reader: page above 3 or malformed"
+abbrev pub VALUE : ℕ
+VALUE = 4
+
+-- "command to a row not awake; timer on a row not on line"
+abbrev pub NOTREADY : ℕ
+NOTREADY = 5
+
+-- "register 4 read with RDDATA 0, or written with 1"
+abbrev pub DIRECTION : ℕ
+DIRECTION = 6
+
+-- "Enable with TA (RI) 0; 05 or 0D with TA or RI 0; lap outside LOST"
+abbrev pub BUSY : ℕ
+BUSY = 7
+
+-- "node ID write to an on-line row"
+abbrev pub ONLINE : ℕ
+ONLINE = 8
+
+-- "Enable with f = 1 and long packets 1"
+abbrev pub PAGE : ℕ
+PAGE = 9
+
+-- a refusal of a call: its number, and the test that says whether it holds
+infix 70 _when_
+pub data Refusal : Type 0 where
+  _when_ : ℕ → Bool → Refusal
+
+-- the number told of a list of refusals: the first whose test holds, or DONE. A refusal after those that gave n: an earlier number stands, else
+-- this one is told where its test holds
+unfoldable pub refuse : ℕ → ℕ → Bool → ℕ
+refuse n number test = pick (eqb n DONE && test) number n
+
+abbrev pub toldAfter : ℕ → List Refusal → ℕ
+toldAfter n [] = n
+toldAfter n (number when test ∷ l) = toldAfter (refuse n number test) l
+
+abbrev pub told : List Refusal → ℕ
+told l = toldAfter DONE l
+
+-- each number is above the one before it, and the first above DONE
+abbrev pub risesFrom : ℕ → List Refusal → Bool
+risesFrom n [] = true
+risesFrom n (number when test ∷ l) = ltb n number && risesFrom number l
+
+abbrev pub rises : List Refusal → Bool
+rises l = risesFrom DONE l
+
+-- the refusal with the number n holds; it does not where the list has none of that number
+abbrev pub refuses : List Refusal → ℕ → Bool
+refuses [] n = false
+refuses (number when test ∷ l) n = pick (eqb n number) test (refuses l n)
+
+-- "The smallest number wins": what is told is the number of a refusal that holds, and none that holds has a smaller; or DONE, and none holds
+pub record Smallest (l : List Refusal) (n : ℕ) : Type 0 where
+  pub one : (n ≡ DONE → ⊥) → refuses l n ≡ true
+  pub least : (m : ℕ) → refuses l m ≡ true → (n ≡ DONE → ⊥) × (n ≤ m)
