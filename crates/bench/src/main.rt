@@ -7,7 +7,7 @@ mod turns;
 ghost use mathlib.Core.Path.{_≡_};
 ghost use Prim.Native.Nat.{_≤_};
 ghost use lib.ListN.{length};
-ghost use Rattle.prompt.specs.Input.{LINE, Held};
+ghost use Rattle.prompt.specs.Input.{LINE, Within};
 ghost use Rattle.bench.specs.Requests.{NET};
 use print::gather::ROOM;
 use prompt::input;
@@ -23,7 +23,7 @@ fn answered(
     input: Input,
     out: &mut [u8; ROOM],
 ) -> usize
-    requires { ⌜ (size ≤ NET) × (length (now lines) ≡ LINE) × Held input ⌝ }
+    requires { ⌜ (size ≤ NET) × (length (now lines) ≡ LINE) × Within input ⌝ }
     ensures { λ r. ⌜ r ≤ NET ⌝ }
 {
     let from = input.from;

@@ -66,30 +66,30 @@ pub enum Request {
     Asks(Call),
 }
 
-// The words. An unknown word's form is all zeros, and no line has no words.
+// The words: each with its form.
+const TABLE: [u8; 238] = *b"size 0 2 2 2\n\
+    peek 1 3 3 3\n\
+    sum 2 1 1 1\n\
+    check 3 1 1 1\n\
+    interrupt 4 2 2 2\n\
+    data 5 3 3 3\n\
+    show 6 1 1 1\n\
+    help 7 1 1 1\n\
+    poke 10 2 3 3\n\
+    fresh 11 2 2 2\n\
+    load 12 1 1 2\n\
+    read 20 3 3 3\n\
+    write 21 4 4 4\n\
+    reset 22 2 2 2\n\
+    timer 23 2 2 2\n\
+    step 30 2 2 2\n\
+    lap 31 2 2 2\n";
+
+// The form of a word. An unknown word's form is all zeros, and no line has no words.
 fn form_of(name: &[u8]) -> Form
     ensures { λ r. ⌜ r ≡ formOf (now (name .entry)) ⌝ }
 {
-    let form = row(
-        b"size 0 2 2 2\n\
-        peek 1 3 3 3\n\
-        sum 2 1 1 1\n\
-        check 3 1 1 1\n\
-        interrupt 4 2 2 2\n\
-        data 5 3 3 3\n\
-        show 6 1 1 1\n\
-        help 7 1 1 1\n\
-        poke 10 2 3 3\n\
-        fresh 11 2 2 2\n\
-        load 12 1 1 2\n\
-        read 20 3 3 3\n\
-        write 21 4 4 4\n\
-        reset 22 2 2 2\n\
-        timer 23 2 2 2\n\
-        step 30 2 2 2\n\
-        lap 31 2 2 2\n",
-        name,
-    );
+    let form = row(&TABLE, name);
     Form {
         call: number_at(form, 1).value,
         digits: number_at(form, 2).value,

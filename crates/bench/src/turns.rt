@@ -46,7 +46,7 @@ fn poke(net: &mut [u8], at: usize, digits: &[u8]) -> Told
     ensures { λ _. ⌜ now (net .exit) ≡ poked (now (net .entry)) at (unhex (now (digits .entry))) ⌝ }
 {
     if calls::poke(net, at, digits) {
-        answers::worded(answers::DONE)
+        answers::numbered(0)
     } else {
         answers::error(Mistake::Outside)
     }
@@ -79,7 +79,7 @@ fn show(out: &mut [u8; ROOM], net: &[u8]) {
 // The calls that change nothing.
 fn look(out: &mut [u8; ROOM], net: &[u8], call: usize, a: usize, b: usize) {
     match call {
-        SIZE => tell(out, answers::worded(answers::DONE)),
+        SIZE => tell(out, answers::numbered(0)),
         PEEK => peek(out, net, a, b),
         SUM => sum(out, net),
         CHECK => tell(out, answers::numbered(calls::shape_number(net))),

@@ -6,7 +6,7 @@ use Rattle.prompt.specs.declared.input.Input.{Input}
 abbrev pub LINE : ℕ
 LINE = 8192
 
-pub record Held (input : Input) : Type 0 where
+pub record Within (input : Input) : Type 0 where
   pub line : input .from ≤ input .end
   pub line-end : input .end ≤ LINE
   pub rest : input .next ≤ input .to

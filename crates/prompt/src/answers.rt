@@ -23,71 +23,70 @@ pub enum Mistake {
     Room,
 }
 
-// An answer of one line: the place of its text in `tell`, and the number after it where there is one.
+// An answer of one line: the place of its text in `TEXTS`, and the number after it where there is one.
 pub struct Told {
     pub text: usize,
     pub valued: bool,
     pub value: usize,
 }
 
-// The places of the texts. DONE is 0, and from 1 on they are the refusals of 01, "Numbers a caller may get".
-pub const DONE: usize = 0;
+// The places of the texts. Those after DONE are the refusals of 01, "Numbers a caller may get", by their numbers.
+const QUIET: usize = 0;
 
-const QUIET: usize = 15;
+const TOKENLOST: usize = 1;
 
-const TOKENLOST: usize = 16;
+const RECOVERED: usize = 2;
 
-const RECOVERED: usize = 17;
+const PASSED: usize = 3;
 
-const PASSED: usize = 18;
+const UNANSWERED: usize = 4;
 
-const UNANSWERED: usize = 19;
+const HELD: usize = 5;
 
-const HELD: usize = 20;
+const ERROR: usize = 12;
 
-const ERROR: usize = 27;
+const DONE: usize = 21;
+
+// A line for each text.
+const TEXTS: [u8; 664] = *b"QUIET\n\
+    TOKENLOST\n\
+    RECOVERED\n\
+    PASSED\n\
+    UNANSWERED\n\
+    HELD NOTHING\n\
+    HELD MALFORMED\n\
+    HELD BROADCAST\n\
+    HELD NOANSWER\n\
+    HELD NAK\n\
+    HELD DELIVERED\n\
+    HELD UNACKNOWLEDGED\n\
+    ERROR the line is too long\n\
+    ERROR words are separated by single spaces\n\
+    ERROR no such word\n\
+    ERROR too few words, or too many\n\
+    ERROR not a number up to 4294967295\n\
+    ERROR not pairs of hex digits\n\
+    ERROR a size is at most 66400\n\
+    ERROR outside the lent bytes\n\
+    ERROR a room is at most 70\n\
+    DONE\n\
+    REFUSED 1 SHAPE\n\
+    REFUSED 2 ROW\n\
+    REFUSED 3 REGISTER\n\
+    REFUSED 4 VALUE\n\
+    REFUSED 5 NOTREADY\n\
+    REFUSED 6 DIRECTION\n\
+    REFUSED 7 BUSY\n\
+    REFUSED 8 ONLINE\n\
+    REFUSED 9 PAGE\n\
+    REFUSED 10 DUPLICATE\n\
+    REFUSED 11 HOLDER\n\
+    REFUSED 12 ALONE\n\
+    REFUSED 13 ROOM\n\
+    REFUSED 14 ORDER\n";
 
 pub fn tell(out: &mut [u8; ROOM], told: Told) {
-    let words = part(
-        b"DONE\n\
-        REFUSED 1 SHAPE\n\
-        REFUSED 2 ROW\n\
-        REFUSED 3 REGISTER\n\
-        REFUSED 4 VALUE\n\
-        REFUSED 5 NOTREADY\n\
-        REFUSED 6 DIRECTION\n\
-        REFUSED 7 BUSY\n\
-        REFUSED 8 ONLINE\n\
-        REFUSED 9 PAGE\n\
-        REFUSED 10 DUPLICATE\n\
-        REFUSED 11 HOLDER\n\
-        REFUSED 12 ALONE\n\
-        REFUSED 13 ROOM\n\
-        REFUSED 14 ORDER\n\
-        QUIET\n\
-        TOKENLOST\n\
-        RECOVERED\n\
-        PASSED\n\
-        UNANSWERED\n\
-        HELD NOTHING\n\
-        HELD MALFORMED\n\
-        HELD BROADCAST\n\
-        HELD NOANSWER\n\
-        HELD NAK\n\
-        HELD DELIVERED\n\
-        HELD UNACKNOWLEDGED\n\
-        ERROR the line is too long\n\
-        ERROR words are separated by single spaces\n\
-        ERROR no such word\n\
-        ERROR too few words, or too many\n\
-        ERROR not a number up to 4294967295\n\
-        ERROR not pairs of hex digits\n\
-        ERROR a size is at most 66400\n\
-        ERROR outside the lent bytes\n\
-        ERROR a room is at most 70\n",
-        b'\n',
-        told.text,
-    );
+    let words = part(&TEXTS, b'\n', told.text);
     let mut n = text(out, 0, words);
     if told.valued {
         n = number(out, n, told.value);
@@ -95,7 +94,7 @@ pub fn tell(out: &mut [u8; ROOM], told: Told) {
     end(out, n);
 }
 
-pub fn worded(text: usize) -> Told {
+fn worded(text: usize) -> Told {
     Told {
         text,
         valued: false,
@@ -113,13 +112,13 @@ fn valued(text: usize, value: usize) -> Told {
 
 // DONE, or the refusal of the number.
 pub fn numbered(number: u8) -> Told {
-    worded(number as usize)
+    worded(DONE + number as usize)
 }
 
 // DONE and the value, or the refusal of the number.
 pub fn reading(reading: Reading) -> Told {
     Told {
-        text: reading.number as usize,
+        text: DONE + reading.number as usize,
         valued: reading.number == 0,
         value: reading.value as usize,
     }
@@ -127,7 +126,7 @@ pub fn reading(reading: Reading) -> Told {
 
 pub fn interrupting(interrupting: Interrupting) -> Told {
     Told {
-        text: interrupting.number as usize,
+        text: DONE + interrupting.number as usize,
         valued: interrupting.number == 0,
         value: interrupting.active as usize,
     }

@@ -2,7 +2,7 @@
 ghost use mathlib.Core.Path.{_≡_};
 ghost use Prim.Native.Nat.{_-_, _≤_};
 ghost use lib.ListN.{length, take, drop};
-ghost use Rattle.prompt.specs.Input.{LINE, Held};
+ghost use Rattle.prompt.specs.Input.{LINE, Within};
 use libc::STDIN_FILENO;
 
 // The buffer: a line of this many bytes or more does not fit it.
@@ -24,7 +24,7 @@ pub struct Input {
 
 impl Input {
     pub fn none() -> Input
-        ensures { λ r. ⌜ Held r ⌝ }
+        ensures { λ r. ⌜ Within r ⌝ }
     {
         Input {
             over: false,
@@ -75,7 +75,7 @@ fn kept_from(from: usize, to: usize) -> usize
 // The input has ended behind the first `to` bytes of the buffer: they are the last line, if there is one.
 fn last(long: bool, to: usize) -> Input
     requires { ⌜ to ≤ LINE ⌝ }
-    ensures { λ r. ⌜ Held r ⌝ }
+    ensures { λ r. ⌜ Within r ⌝ }
 {
     Input {
         over: (to == 0) & !long,
@@ -89,8 +89,8 @@ fn last(long: bool, to: usize) -> Input
 
 // The next line is taken; the last one may lack its newline.
 pub fn next(lines: &mut [u8; LINE], input: Input) -> Input
-    requires { ⌜ Held input ⌝ }
-    ensures { λ r. ⌜ Held r ⌝ }
+    requires { ⌜ Within input ⌝ }
+    ensures { λ r. ⌜ Within r ⌝ }
 {
     let mut from = input.next;
     let mut to = input.to;

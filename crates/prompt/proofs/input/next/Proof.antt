@@ -2,7 +2,7 @@
 -- Assumes nothing.
 use Prim.Native.Nat.{_≤_}
 use native.Mathlib.Omega.{arith}
-use Rattle.prompt.specs.Input.{LINE, Held}
+use Rattle.prompt.specs.Input.{LINE, Within}
 use borrow.Author.Needs.{needs}
 use Rattle.prompt.proofs.input.next.Statement.{statement}
 use Rattle.prompt.proofs.input.next.Tie as tie
