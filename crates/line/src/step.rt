@@ -80,10 +80,10 @@ fn lost(net: &mut [u8]) -> Answer
     if top == 0 {
         return Answer::Quiet;
     }
-    let h = node_of(net, top, n, n);
+    let first = node_of(net, top, n, n);
     happen(net, n, Event::Recovery);
-    turn(net, PASS, h as u8);
-    Answer::Recovered(h)
+    turn(net, PASS, first as u8);
+    Answer::Recovered(first)
 }
 
 fn pass(net: &mut [u8], fault: usize) -> Answer
