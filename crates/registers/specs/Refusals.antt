@@ -69,8 +69,5 @@ writeRefusals g k v =
     ∷ ONLINE when (onLine g && writesId g k)
     ∷ PAGE when (eqb k 1 && oddPage g (commandOf v)) ∷ []
 
-abbrev pub readNumber : Regs → ℕ → ℕ
-readNumber g k = told (readRefusals g k)
-
 abbrev pub writeNumber : Regs → ℕ → ℕ → ℕ
 writeNumber g k v = told (writeRefusals g k v)

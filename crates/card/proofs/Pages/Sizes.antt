@@ -31,11 +31,6 @@ head-most Malformed = omega arith
 head-most (Short c) = omega arith
 head-most (Long c) = omega arith
 
-pub data-least : (s : Shape) → malformed s ≡ false → dataAt s < 256 → 0 < dataBytes s
-data-least Malformed m h = absurd (let z : _≡_ {A = ℕ} 0 1 = cc in omega arith)
-data-least (Short c) m h = omega arith
-data-least (Long c) m h = omega arith
-
 pub page-most : (s : Shape) → pageBytes s ≤ 512
 page-most Malformed = omega arith
 page-most (Short c) = omega arith

@@ -8,7 +8,7 @@ use native.Mathlib.Nat.{not-suc-le-zero, add-zero}
 use native.Mathlib.Omega.{arith}
 use lib.Dec.{lit<}
 use lib.ListN.{length, getD, set, drop, length-set, length-drop}
-use lib.Seq.{sets, length-sets, set-getD, getD-set-other, getD-set-same, getD-take, getD-drop, ext-getD, length-take-le}
+use lib.Seq.{sets, length-sets, getD-set-other, getD-set-same, getD-take, getD-drop, ext-getD, length-take-le}
 use Rattle.registers.specs.declared.regs.Regs.{Regs}
 use Rattle.card.specs.Row.{registerBytes, regsOf, bytesOf, putRegs, spare, zeros, marked, wellFormed}
 use Rattle.registers.specs.Fit.{fit}
@@ -58,12 +58,6 @@ module _ (r : List ℕ) (g : Regs) where
   regs-put h =
       let e : (k : ℕ) → k < 14 → getD (sets r 2 (bytesOf g)) (2 + k) 0 ≡ getD (bytesOf g) k 0 = λ k hk. within r 2 (bytesOf g) k h hk in
       rw (e 0 (lit< tt), e 1 (lit< tt), e 2 (lit< tt), e 3 (lit< tt), e 4 (lit< tt), e 5 (lit< tt), e 6 (lit< tt), e 7 (lit< tt), e 8 (lit< tt), e 9 (lit< tt), e 10 (lit< tt), e 11 (lit< tt), e 12 (lit< tt), e 13 (lit< tt))
-
--- a row that is given its own registers is as it was
-pub put-same : (r : List ℕ) → putRegs r (regsOf r) ≡ r
-unfolding putRegs regsOf
-put-same r =
-    rw (set-getD r 2 0, set-getD r 3 0, set-getD r 4 0, set-getD r 5 0, set-getD r 6 0, set-getD r 7 0, set-getD r 8 0, set-getD r 9 0, set-getD r 10 0, set-getD r 11 0, set-getD r 12 0, set-getD r 13 0, set-getD r 14 0, set-getD r 15 0)
 
 -- ---- well-formedness, by parts
 module _ (r : List ℕ) where

@@ -52,15 +52,5 @@ module _ (f : ℕ → List ℕ → List ℕ) (net : List ℕ) where
     all-reached : rowStart n ≤ length net → Reached n
     all-reached h = reached n h (λ k l. keeps k (rowAt net k) (length-rowAt net k (omega arith)))
 
-    pub length-eachRow : rowStart n ≤ length net → length (eachRow f net n) ≡ length net
-    length-eachRow h = all-reached h .long
-
-    pub eachRow-header : (x : ℕ) → rowStart n ≤ length net → x < headerBytes → getD (eachRow f net n) x 0 ≡ getD net x 0
-    eachRow-header x h l = all-reached h .header x l
-
-    -- a row that is not reached is as it was
-    pub eachRow-past : (j : ℕ) → rowStart n ≤ length net → n ≤ j → rowStart j + rowBytes ≤ length net → rowAt (eachRow f net n) j ≡ rowAt net j
-    eachRow-past j h l hj = all-reached h .past j l hj
-
     pub eachRow-row : (j : ℕ) → rowStart n ≤ length net → j < n → rowAt (eachRow f net n) j ≡ f j (rowAt net j)
     eachRow-row j h l = all-reached h .row j l

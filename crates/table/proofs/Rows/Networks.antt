@@ -9,7 +9,7 @@ use lib.Dec.{ltb}
 use lib.ListN.{length, getD, set, take, drop, length-append, length-set, length-drop, List·getD-append}
 use lib.Seq.{length-take-le, getD-append-add, getD-take, getD-drop, getD-set-same, getD-set-other, drop-set-lt, ext-getD}
 use borrow.Author.Tests.{ltb-true, ltb-false}
-use borrow.Rule.Slice.PartMut.{midOf, putMid, put-same}
+use borrow.Rule.Slice.PartMut.{midOf, putMid}
 use Rattle.card.specs.Row.{rowBytes}
 use Rattle.registers.proofs.Words.Bools.{cases}
 use Rattle.table.specs.Network.{headerBytes, rows, phase, holder, turned, rowStart, rowAt, setRow}
@@ -58,10 +58,6 @@ unfolding setRow
 put-row net k r = let e : rowStart k + rowBytes - rowStart k ≡ rowBytes = omega arith in rw e
 
 -- ---- the network with another row
-pub setRow-rowAt : (net : List ℕ) (k : ℕ) → setRow net k (rowAt net k) ≡ net
-unfolding setRow rowAt
-setRow-rowAt net k = put-same (rowStart k) rowBytes net
-
 module _ (net : List ℕ) (k : ℕ) (r : List ℕ) (h : rowStart k + rowBytes ≤ length net) (e : length r ≡ rowBytes) where
   pub length-setRow : length (setRow net k r) ≡ length net
   unfolding setRow
