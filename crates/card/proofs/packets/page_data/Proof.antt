@@ -1,4 +1,5 @@
--- `card::packets::page_data` meets its contract: the data stay within the row. Assumes nothing.
+-- `card::packets::page_data` meets its contract: the data stay within the row.
+-- Assumes nothing.
 use mathlib.Core.Path.{_≡_, _∙_}
 use mathlib.Core.List.{List}
 use Prim.Native.Nat.{ℕ, _+_, _-_, _≤_}
@@ -26,9 +27,12 @@ within c =
     let s = c .before .before .before .args in
     data-fits (s .row .now) (s .page) (omega arith) (c .page-shape .result) (c .page-shape .ensures) (λ i. omega (arith, c .before .before .shared-slice-known .given i))
 
--- the row, the page, and where its data start and end, as the code has found them
+-- the row, where it stands, the page, and where its data start and end, as the code has found them
 abbrev row : tie.After-data-bytes → List ℕ
 row c = c .before .before .before .before .before .before .args .row .now
+
+abbrev at : tie.After-data-bytes → ℕ × ℕ
+at c = c .before .before .before .before .before .before .args .row .ptr
 
 abbrev page : tie.After-data-bytes → ℕ
 page c = c .before .before .before .before .before .before .args .page
@@ -46,8 +50,8 @@ bytes c =
     let b = c .before .before in
     simp (part-length, b .page-at .ensures, c .before .data-at .ensures, c .data-bytes .ensures, b .before .page-shape .ensures, le-ltb _ _ (b .before .before .if1 .left))
 
-place : (c : tie.After-data-bytes) (p : ℕ × ℕ) → (p .0, from c + p .1) ≡ onward p (dataFrom (row c) (page c))
-place c p =
+place : (c : tie.After-data-bytes) → (at c .0, from c + at c .1) ≡ onward (at c) (dataFrom (row c) (page c))
+place c =
     let b = c .before .before in
     onward-part _ _ ∙ simp (b .page-at .ensures, c .before .data-at .ensures, b .before .page-shape .ensures)
 
@@ -57,4 +61,4 @@ page-data-spec =
     (tie.spec (λ c. search needs) (λ c. search needs) (λ c. search needs) returns (λ c κs. search needs) (λ c κs. search needs) (λ c κs. search needs)
     (λ c. omega (arith, within (c .before .before))) (λ c κs. search needs) (λ c. omega (arith, within (c .before .before .before)))
     (λ c. search needs) (λ c. search needs) (λ c. omega (arith, within (c .before .before .before)))
-    (λ c. (bytes (c .before), λ e. place (c .before) _)))
+    (λ c. (bytes (c .before), λ e. place (c .before))))
