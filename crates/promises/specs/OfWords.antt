@@ -1,0 +1,13 @@
+-- "No second outcome fits", over the contracts of `words`.
+-- Assumes nothing.
+use Rattle.words.proofs.words as words
+use Rattle.words.proofs.numbers as numbers
+use Rattle.words.proofs.hex as hex
+use Rattle.promises.specs.Once.{Fixed, Once}
+
+pub record OfWords : Type 0 where
+  pub count : Once words.count.ended words.count.Reads.Asked words.count.Reads.Learnt
+  pub spaced : Once words.spaced.ended words.spaced.Reads.Asked words.spaced.Reads.Learnt
+  pub number-at : Once numbers.number_at.ended numbers.number_at.Reads.Asked numbers.number_at.Reads.Learnt
+  pub hex-fits : Once hex.hex_fits.ended hex.hex_fits.Reads.Asked hex.hex_fits.Reads.Learnt
+  pub unhex : Fixed hex.unhex.ended hex.unhex.Reads.Learnt
