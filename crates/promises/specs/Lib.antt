@@ -6,3 +6,5 @@ pub mod OfTable
 pub mod OfLine
 pub mod OfDesk
 pub mod OfWords
+pub mod Sums
+pub mod Promises

@@ -1,7 +1,7 @@
 -- No second outcome fits a contract of `desk`.
 -- Assumes nothing.
 use mathlib.Core.Path.{refl, sym, _∙_}
-use Rattle.desk.proofs.Theorems.Promised.{one-outcome}
+use Rattle.desk.proofs.Lapping.LapDone.{only-walk}
 use Rattle.promises.specs.OfDesk.{OfDesk}
 use Rattle.promises.proofs.Once.Same.{told, both-right}
 use Rattle.promises.proofs.Once.Sixty.{sixty}
@@ -15,7 +15,7 @@ desk-once = record {
     λ κs a. tt,
     λ κs a x x′ w w′ p q. (
       λ o o′.
-          let e = one-outcome .walk _ _ _ _ _ _ _ _ _ _ (sixty κs x o) (sixty κs x′ o′) p q in
+          let e = only-walk _ _ _ _ _ _ _ _ _ _ (sixty κs x o) (sixty κs x′ o′) p q in
           λ i. record { lapped = e .1 .1 .0 i; n = e .0 i; list = e .1 .0 i },
       λ i. ((p .5 ∙ sym (q .5)) i, (tt, tt)),
     ),
