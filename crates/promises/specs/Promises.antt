@@ -10,16 +10,15 @@ use Rattle.card.specs.Packets.{shapeOf, dataBytes, CanBeSent, malformed}
 use Rattle.card.specs.Bystander.{Bystander, Storing, Sends}
 use Rattle.line.specs.declared.traffic.Outcome.{Outcome}
 use Rattle.line.specs.declared.step.Answer.the-variants.{Held}
-use Rattle.table.specs.Network.{headerBytes, rowLimit, rows, phase, holder, TAKEN, rowAt, regsAt, shape, SameFrame, OnlyRow, LOST, onLineAt}
+use Rattle.table.specs.Network.{headerBytes, rows, phase, holder, TAKEN, rowAt, regsAt, shape, SameFrame, OnlyRow, LOST, onLineAt}
 use Rattle.table.specs.Calls.{placeRefusals, placeNumber, netReadRefusals, netReading, netAfterRead, netWriteRefusals, netWriteNumber, netAfterWrite, netAfterReset, timerRefusals, timerNumber, netAfterTimer, netInterrupt, netData, netDataRefusals, netDataNumber, freshRefusals, freshNumber, netAfterFresh}
 use Rattle.line.specs.Step.{stepRefusals, step, answerNumber, answerValue, highest}
 use Rattle.line.specs.Outcomes.{stores, HolderLeft, meets}
 use Rattle.desk.specs.declared.laps.Taker.{Taker}
-use Rattle.desk.specs.declared.laps.Lapped.{Lapped}
 use Rattle.desk.specs.Numbers.{ORDER}
-use Rattle.desk.specs.Order.{records, orderFits, nameAt, idAt}
+use Rattle.desk.specs.Order.{records, orderFits, idAt}
 use Rattle.desk.specs.Load.{roomRefusals, loadNumber, netAfterLoad}
-use Rattle.desk.specs.Lap.{nodes, after, answers, takers, lapSteps, lapRefusals, lapNumber, lapped, netAfterLap, lapTakers, listAfterLap, Walks}
+use Rattle.desk.specs.Lap.{nodes, after, answers, takers, lapSteps, lapRefusals, lapNumber, lapped, netAfterLap, lapTakers, listAfterLap}
 use Rattle.desk.specs.Demand.{Call, table, steps, answersOf, Throughout, LapOf}
 use Rattle.promises.specs.OfRegisters.{OfRegisters}
 use Rattle.promises.specs.OfCard.{OfCard}
