@@ -10,7 +10,6 @@ use Rattle.promises.specs.LapReads as lap
 -- `walk` hands back a list of sixty, and that is in its type alone: Ok is what the type says
 pub record OfDesk : Type 0 where
   pub records : Once orders.records.ended orders.records.Reads.Asked orders.records.Reads.Learnt
-  pub order-fits : Once orders.order_fits.ended orders.order_fits.Reads.Asked orders.order_fits.Reads.Learnt
   pub load : Once loading.load.ended loading.load.Reads.Asked loading.load.Reads.Learnt
   pub walk : OnceBy laps.walk.ended (λ κs x x′. laps.walk.Kinds.r .is .Ok κs x → laps.walk.Kinds.r .is .Ok κs x′ → x ≡ x′) laps.walk.Reads.Asked laps.walk.Reads.Learnt
   pub lap : Once laps.lap.ended lap.Asked lap.Learnt

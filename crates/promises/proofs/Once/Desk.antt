@@ -9,7 +9,6 @@ use Rattle.promises.proofs.Once.Sixty.{sixty}
 pub desk-once : OfDesk
 desk-once = record {
   records = (λ _ _. tt, λ _ _ _ _ _ _. told refl);
-  order-fits = (λ _ _. tt, λ _ _ _ _ _ _. told refl);
   load = (λ _ _. tt, λ _ _ _ _ _ _. both-right refl);
   walk = (
     λ κs a. tt,
