@@ -10,7 +10,7 @@ use Rattle.desk.specs.Lap.{nodes, after, answers, lapSteps}
 use Rattle.desk.specs.Demand.{Ready, LapOf, Demand3}
 use Rattle.promises.specs.Promises.{LapCallIsTheLap}
 use Rattle.desk.proofs.Lapping.LapNumber.{lap-shape, lap-lost, lap-two}
-use Rattle.desk.proofs.Lapping.LapDone.{done-total, done-leaves, done-entries}
+use Rattle.desk.proofs.Lapping.LapLeaves.{done-total, done-leaves, done-entries}
 use Rattle.desk.proofs.Runs.Back.{lap-steps, lap-phase, lap-holder}
 use Rattle.desk.proofs.Runs.LapCounts.{lap-entries}
 use Rattle.desk.proofs.Runs.StepCalls.{stepCalls, table-steps, count-steps, throughout-steps, answers-steps, table-only, count-only, throughout-only}

@@ -10,7 +10,7 @@ use Rattle.line.proofs.Promised.TheHolder.{sends, holder-left}
 use Rattle.line.proofs.Promised.Faults.{idle-fault}
 use Rattle.card.proofs.CardSums.{data-sizes}
 use Rattle.desk.proofs.Loads.Loaded.{load-refused}
-use Rattle.desk.proofs.Lapping.LapDone.{walk-refused, lap-refused}
+use Rattle.desk.proofs.Lapping.LapLeaves.{walk-refused, lap-refused}
 use Rattle.promises.specs.Promises.{RefusalsChangeNothing, NoOtherRow, OutcomesSay, IdleFaults, Sizes, OneOutcome}
 use Rattle.promises.proofs.Once.Registers.{registers-once}
 use Rattle.promises.proofs.Once.Card.{card-once}

@@ -1,7 +1,7 @@
 -- No second outcome fits a contract of `desk`.
 -- Assumes nothing.
 use mathlib.Core.Path.{refl, sym, _∙_}
-use Rattle.desk.proofs.Lapping.LapDone.{only-walk}
+use Rattle.desk.proofs.Lapping.LapLeaves.{only-walk}
 use Rattle.promises.specs.OfDesk.{OfDesk}
 use Rattle.promises.proofs.Once.Same.{told, both-right}
 use Rattle.promises.proofs.Once.Sixty.{sixty}
