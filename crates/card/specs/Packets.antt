@@ -69,10 +69,14 @@ dataRefusals r p = VALUE when (ltb 3 p || malformed (pageShape r p)) ∷ []
 abbrev pub dataNumber : List ℕ → ℕ → ℕ
 dataNumber r p = told (dataRefusals r p)
 
--- "A reader asks for the data of a page of a row and gets back that stretch ..; a refusal gives a stretch of length 0"
+-- "A reader asks for the data of a page of a row and gets back that stretch of the network itself": where in the row it starts
+abbrev pub dataFrom : List ℕ → ℕ → ℕ
+dataFrom r p = pageAt p + dataAt (pageShape r p)
+
+-- its bytes; "a refusal gives a stretch of length 0"
 unfoldable pub pageData : List ℕ → ℕ → List ℕ
 pageData r p =
-    pick (ltb 3 p) [] (take (dataBytes (pageShape r p)) (drop (pageAt p + dataAt (pageShape r p)) r))
+    pick (ltb 3 p) [] (take (dataBytes (pageShape r p)) (drop (dataFrom r p) r))
 
 -- the packet of a page, read out: its shape and the page's bytes, with zeros up to 512
 unfoldable pub packetAt : List ℕ → ℕ → Packet

@@ -2,8 +2,9 @@
 ghost use mathlib.Core.Path.{_≡_};
 ghost use Prim.Native.Nat.{_+_, _-_, _≤_, _<_};
 ghost use lib.ListN.{length, take, drop};
+ghost use Rattle.places.specs.Places.{onward};
 ghost use Rattle.card.specs.Row.{rowBytes};
-ghost use Rattle.card.specs.Packets.{shapeOf, dataBytes, dataAt, headBytes, pageBytes, pageAt, malformed, pageShape, destination, dataNumber, pageData, packetAt, laid, stored, stamped, storable};
+ghost use Rattle.card.specs.Packets.{shapeOf, dataBytes, dataAt, headBytes, pageBytes, pageAt, malformed, pageShape, destination, dataNumber, dataFrom, pageData, packetAt, laid, stored, stamped, storable};
 use crate::row::REGISTER_BYTES;
 use crate::row::load;
 use registers::numbers::DONE;
@@ -134,7 +135,8 @@ pub fn destination(row: &[u8], page: usize) -> u8
 // The data of a page: that stretch of the row itself, of length 0 where the call below gives a number.
 pub fn page_data(row: &[u8], page: usize) -> &[u8]
     requires { ⌜ length (now row) ≡ rowBytes ⌝ }
-    ensures { λ r. ⌜ now r ≡ pageData (now (row .entry)) page ⌝ }
+    ensures bytes { λ r. ⌜ now r ≡ pageData (now (row .entry)) page ⌝ }
+    ensures place { λ r. ⌜ (dataNumber (now (row .entry)) page ≡ 0 → r .ptr ≡ onward (row .entry .ptr) (dataFrom (now (row .entry)) page)) ⌝ }
 {
     if 3 < page {
         return &row[0..0];

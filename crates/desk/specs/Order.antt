@@ -2,7 +2,7 @@
 -- Assumes nothing.
 use mathlib.Core.Bool.{Bool, true, not, _&&_}
 use mathlib.Core.List.{List, [], _∷_}
-use Prim.Native.Nat.{ℕ, _*_, _/_, _%_}
+use Prim.Native.Nat.{ℕ, _+_, _*_, _/_, _%_}
 use lib.Dec.{eqb, leb, ltb}
 use lib.ListN.{length, getD, take, drop}
 use Rattle.registers.specs.Words.{pick, all}
@@ -77,6 +77,10 @@ spaces (x ∷ l) = eqb x 0x20 && spaces l
 unfoldable pub trimmed : List ℕ → List ℕ
 trimmed [] = []
 trimmed (x ∷ l) = pick (spaces (x ∷ l)) [] (x ∷ trimmed l)
+
+-- where in the order the name of record k starts: after "mark .., node ID .., flags"
+abbrev pub nameFrom : ℕ → ℕ
+nameFrom k = recordBytes * k + 4
 
 -- the name of record k; nothing where there is no such record
 unfoldable pub nameAt : List ℕ → ℕ → List ℕ

@@ -1,8 +1,9 @@
 // Document 01, "Order forms and the lap": the order form.
 ghost use mathlib.Core.Path.{_≡_};
-ghost use Prim.Native.Nat.{_+_, _*_, _≤_};
+ghost use Prim.Native.Nat.{_+_, _*_, _≤_, _<_};
 ghost use lib.ListN.{length};
-ghost use Rattle.desk.specs.Order.{recordBytes, records, recordAt, idAt, flagsOf, printables, recordFits, recordsFit, idsDiffer, orderFits, nameAt};
+ghost use Rattle.places.specs.Places.{onward};
+ghost use Rattle.desk.specs.Order.{recordBytes, records, recordAt, idAt, flagsOf, printables, recordFits, recordsFit, idsDiffer, orderFits, nameFrom, nameAt};
 use table::network::ROWS;
 
 pub const RECORD: usize = 16;
@@ -27,8 +28,9 @@ pub fn records(order: &[u8]) -> usize
 // A record's part of the order.
 fn record_at(order: &[u8], k: usize) -> &[u8]
     requires { ⌜ recordBytes * k + recordBytes ≤ length (now order) ⌝ }
-    ensures { λ r. ⌜ now r ≡ recordAt (now (order .entry)) k ⌝ }
-    ensures { λ r. ⌜ length (now r) ≡ recordBytes ⌝ }
+    ensures bytes { λ r. ⌜ now r ≡ recordAt (now (order .entry)) k ⌝ }
+    ensures size { λ r. ⌜ length (now r) ≡ recordBytes ⌝ }
+    ensures place { λ r. ⌜ r .ptr ≡ onward (order .entry .ptr) (recordBytes * k) ⌝ }
 {
     let a = RECORD * k;
     &order[a..a + RECORD]
@@ -120,7 +122,8 @@ pub fn order_fits(order: &[u8]) -> bool
 
 // The station name of record k without its trailing spaces; nothing where there is no such record.
 pub fn name_at(order: &[u8], k: usize) -> &[u8]
-    ensures { λ r. ⌜ now r ≡ nameAt (now (order .entry)) k ⌝ }
+    ensures bytes { λ r. ⌜ now r ≡ nameAt (now (order .entry)) k ⌝ }
+    ensures place { λ r. ⌜ (k < records (now (order .entry)) → r .ptr ≡ onward (order .entry .ptr) (nameFrom k)) ⌝ }
 {
     if records(order) <= k {
         return &order[0..0];

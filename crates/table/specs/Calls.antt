@@ -2,7 +2,7 @@
 -- Assumes nothing.
 use mathlib.Core.Bool.{Bool, false, not, _&&_, _||_}
 use mathlib.Core.List.{List, [], _∷_, _++_}
-use Prim.Native.Nat.{ℕ, zero, suc}
+use Prim.Native.Nat.{ℕ, zero, suc, _+_}
 use lib.Dec.{eqb, leb, ltb}
 use lib.ListN.{length, replicate}
 use Rattle.table.specs.declared.calls.Reading.{Reading}
@@ -13,7 +13,7 @@ use Rattle.registers.specs.Fit.{onLine}
 use Rattle.registers.specs.Registers.{interrupt, afterWrite}
 use Rattle.registers.specs.Refusals.{readRefusals, writeRefusals}
 use Rattle.card.specs.Access.{valueRead, rowAfterRead, rowAfterWrite, rowAfterReset, freshRow}
-use Rattle.card.specs.Packets.{dataRefusals, pageData}
+use Rattle.card.specs.Packets.{dataRefusals, dataFrom, pageData}
 use Rattle.registers.specs.Events.{burst}
 use Rattle.table.specs.Numbers.{SHAPE, ROW, DUPLICATE, ROOM}
 use Rattle.table.specs.Network.{mark, rowLimit, rowStart, rows, phase, holder, LOST, turned, rowAt, setRow, onRegs, regsAt, onLineAt, nodeOf, shape}
@@ -91,6 +91,11 @@ netInterrupt net k =
     record { number = placeNumber net k; active = pick (eqb (placeNumber net k) 0) (interrupt (regsAt net k)) false }
 
 -- ---- the page reader
+-- "A reader asks for the data of a page of a row and gets back that stretch of the network itself": where in the network it starts
+abbrev pub netDataFrom : List ℕ → ℕ → ℕ → ℕ
+netDataFrom net k p = rowStart k + dataFrom (rowAt net k) p
+
+-- its bytes; "a refusal gives a stretch of length 0"
 unfoldable pub netData : List ℕ → ℕ → ℕ → List ℕ
 netData net k p = pick (eqb (placeNumber net k) 0) (pageData (rowAt net k) p) []
 

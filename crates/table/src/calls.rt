@@ -4,10 +4,11 @@ ghost use mathlib.Core.Bool.{true};
 ghost use mathlib.Core.List.{_∷_, _++_};
 ghost use Prim.Native.Nat.{_+_, _≤_, _<_};
 ghost use lib.ListN.{length, drop, replicate};
+ghost use Rattle.places.specs.Places.{onward};
 ghost use Rattle.card.specs.Row.{rowBytes};
 ghost use Rattle.card.specs.Access.{freshRow};
 ghost use Rattle.table.specs.Network.{headerBytes, mark, rowStart, rows, eachRow, shape};
-ghost use Rattle.table.specs.Calls.{placeNumber, netReadNumber, netReading, netAfterRead, settled, netWriteNumber, netAfterWrite, netAfterReset, timerNumber, netAfterTimer, netInterrupt, netData, netDataNumber, freshNumber, netAfterFresh};
+ghost use Rattle.table.specs.Calls.{placeNumber, netReadNumber, netReading, netAfterRead, settled, netWriteNumber, netAfterWrite, netAfterReset, timerNumber, netAfterTimer, netInterrupt, netDataFrom, netData, netDataNumber, freshNumber, netAfterFresh};
 use crate::network::HEADER;
 use crate::network::LOST;
 use crate::network::MARK;
@@ -194,7 +195,8 @@ pub fn interrupt(net: &[u8], row: usize) -> Interrupting
 
 // The data of a page of a row: that stretch of the network itself.
 pub fn page_data(net: &[u8], row: usize, page: usize) -> &[u8]
-    ensures { λ r. ⌜ now r ≡ netData (now (net .entry)) row page ⌝ }
+    ensures bytes { λ r. ⌜ now r ≡ netData (now (net .entry)) row page ⌝ }
+    ensures place { λ r. ⌜ (netDataNumber (now (net .entry)) row page ≡ 0 → r .ptr ≡ onward (net .entry .ptr) (netDataFrom (now (net .entry)) row page)) ⌝ }
 {
     if place_number(net, row) != DONE {
         return &net[0..0];

@@ -2,6 +2,7 @@
 ghost use mathlib.Core.Path.{_≡_};
 ghost use Prim.Native.Nat.{_+_, _≤_, _<_};
 ghost use lib.ListN.{length};
+ghost use Rattle.places.specs.Places.{onward};
 ghost use Rattle.card.specs.Row.{rowBytes, putRegs};
 ghost use Rattle.table.specs.Network.{headerBytes, rowStart, rows, phase, holder, turned, rowAt, setRow, regsAt, nodeOf, topId, headerFits, rowsFit, idsDiffer, holderFits, shape};
 use card::row::ROW_BYTES;
@@ -52,8 +53,9 @@ pub fn holder(net: &[u8]) -> usize
 // A row's part of the network.
 pub fn row_at(net: &[u8], k: usize) -> &[u8]
     requires { ⌜ rowStart k + rowBytes ≤ length (now net) ⌝ }
-    ensures { λ r. ⌜ now r ≡ rowAt (now (net .entry)) k ⌝ }
-    ensures { λ r. ⌜ length (now r) ≡ rowBytes ⌝ }
+    ensures bytes { λ r. ⌜ now r ≡ rowAt (now (net .entry)) k ⌝ }
+    ensures size { λ r. ⌜ length (now r) ≡ rowBytes ⌝ }
+    ensures place { λ r. ⌜ r .ptr ≡ onward (net .entry .ptr) (rowStart k) ⌝ }
 {
     let a = HEADER + ROW_BYTES * k;
     &net[a..a + ROW_BYTES]

@@ -12,7 +12,7 @@ use lib.ListN.{length, getD, take, drop, length-take, length-drop, drop-of-lengt
 use lib.Seq.{drop-cons, drop-drop}
 use borrow.Author.Tests.{eq-eqb, ne-eqb}
 use Rattle.words.proofs.Bools.{and-false}
-use Rattle.words.specs.Words.{pick, SPACE, upTo, past, part, count, spaced, same}
+use Rattle.words.specs.Words.{pick, SPACE, upTo, past, part, partFrom, count, spaced, same}
 
 -- ---- past the end
 module _ (s : List ℕ) (i : ℕ) (h : length s ≤ i) where
@@ -89,6 +89,15 @@ module _ (stop : ℕ) where
   part-next s zero h = absurd (not-suc-le-zero h)
   part-next s (suc k) h = simp unary-clauses refl
 
+  from-next : (s : List ℕ) (k : ℕ) → 0 < k → partFrom stop s k ≡ suc (length (upTo stop s)) + partFrom stop (past stop s) (k - 1)
+  unfolding partFrom
+  from-next s zero h = absurd (not-suc-le-zero h)
+  from-next s (suc k) h = simp unary-clauses refl
+
+  pub from-here : (s : List ℕ) (from left n : ℕ) → left ≡ 0 → from + partFrom stop s left ≡ n → from ≡ n
+  unfolding partFrom
+  from-here s from left n z e = let f : from + 0 ≡ n = rw z at e in omega (arith, f)
+
   module _ (s : List ℕ) (from end : ℕ) (h : from ≤ length s) (e : end ≡ from + length (upTo stop (drop from s))) where
     pub first-here : take (end - from) (drop from s) ≡ upTo stop (drop from s)
     first-here =
@@ -111,6 +120,11 @@ module _ (stop : ℕ) where
     part-missing k p f =
         let l : length s ≤ end + 1 = omega arith in
         part-past k p ∙ rw (drop-of-length-le s l) (part-nil (k - 1))
+
+    pub from-past : (k : ℕ) → 0 < k → from + partFrom stop (drop from s) k ≡ end + 1 + partFrom stop (drop (end + 1) s) (k - 1)
+    from-past k p =
+        let f = from-next (drop from s) k p ∙ ap (λ (l : List ℕ). suc (length (upTo stop (drop from s))) + partFrom stop l (k - 1)) past-here in
+        omega (arith, f)
 
 -- ---- two words
 pub same-lengths : (s t : List ℕ) → (length s ≡ length t → ⊥) → same s t ≡ false

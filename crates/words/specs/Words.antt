@@ -2,7 +2,7 @@
 -- Assumes nothing.
 use mathlib.Core.Bool.{Bool, true, false, not, _&&_}
 use mathlib.Core.List.{List, [], _∷_}
-use Prim.Native.Nat.{ℕ, zero, suc}
+use Prim.Native.Nat.{ℕ, zero, suc, _+_}
 use lib.Dec.{eqb}
 use lib.ListN.{length}
 
@@ -30,8 +30,16 @@ unfoldable pub part : ℕ → List ℕ → ℕ → List ℕ
 part stop s zero = upTo stop s
 part stop s (suc k) = part stop (past stop s) k
 
+-- where part k starts: past the text's end where there is no such part
+unfoldable pub partFrom : ℕ → List ℕ → ℕ → ℕ
+partFrom stop s zero = 0
+partFrom stop s (suc k) = suc (length (upTo stop s)) + partFrom stop (past stop s) k
+
 abbrev pub word : List ℕ → ℕ → List ℕ
 word = part SPACE
+
+abbrev pub wordFrom : List ℕ → ℕ → ℕ
+wordFrom = partFrom SPACE
 
 -- one word more than there are spaces
 unfoldable pub count : List ℕ → ℕ
@@ -59,3 +67,12 @@ rowOf (suc n) table name =
 -- a table has no more lines than bytes
 unfoldable pub row : List ℕ → List ℕ → List ℕ
 row table name = rowOf (length table) table name
+
+-- where that line starts: past the table's end where there is none
+unfoldable pub rowOfFrom : ℕ → List ℕ → List ℕ → ℕ
+rowOfFrom zero table name = suc (length table)
+rowOfFrom (suc n) table name =
+    pick (same (word (upTo NEWLINE table) 0) name) 0 (suc (length (upTo NEWLINE table)) + rowOfFrom n (past NEWLINE table) name)
+
+unfoldable pub rowFrom : List ℕ → List ℕ → ℕ
+rowFrom table name = rowOfFrom (length table) table name

@@ -3,7 +3,8 @@ ghost use mathlib.Core.Path.{_≡_};
 ghost use mathlib.Core.Bool.{true};
 ghost use Prim.Native.Nat.{_+_, _≤_};
 ghost use lib.ListN.{length, drop};
-ghost use Rattle.words.specs.Words.{upTo, part, word, row, count, spaced, same};
+ghost use Rattle.places.specs.Places.{onward};
+ghost use Rattle.words.specs.Words.{upTo, part, partFrom, word, wordFrom, row, rowFrom, count, spaced, same};
 
 const SPACE: u8 = b' ';
 
@@ -27,7 +28,8 @@ fn part_end(text: &[u8], stop: u8, from: usize) -> usize
 
 // Part k of the text, from 0, of those that `stop` separates; nothing where there is no such part.
 pub fn part(text: &[u8], stop: u8, k: usize) -> &[u8]
-    ensures { λ r. ⌜ now r ≡ part stop (now (text .entry)) k ⌝ }
+    ensures bytes { λ r. ⌜ now r ≡ part stop (now (text .entry)) k ⌝ }
+    ensures place { λ r. ⌜ (partFrom stop (now (text .entry)) k ≤ length (now (text .entry)) → r .ptr ≡ onward (text .entry .ptr) (partFrom stop (now (text .entry)) k)) ⌝ }
 {
     let mut from = 0;
     let mut left = k;
@@ -44,7 +46,8 @@ pub fn part(text: &[u8], stop: u8, k: usize) -> &[u8]
 }
 
 pub fn word(line: &[u8], k: usize) -> &[u8]
-    ensures { λ r. ⌜ now r ≡ word (now (line .entry)) k ⌝ }
+    ensures bytes { λ r. ⌜ now r ≡ word (now (line .entry)) k ⌝ }
+    ensures place { λ r. ⌜ (wordFrom (now (line .entry)) k ≤ length (now (line .entry)) → r .ptr ≡ onward (line .entry .ptr) (wordFrom (now (line .entry)) k)) ⌝ }
 {
     part(line, SPACE, k)
 }
@@ -100,7 +103,8 @@ pub fn same(word: &[u8], name: &[u8]) -> bool
 
 // The first line of the table that has the name as its first word; nothing where none has.
 pub fn row<'a>(table: &'a [u8], name: &'a [u8]) -> &'a [u8]
-    ensures { λ r. ⌜ now r ≡ row (now (table .entry)) (now (name .entry)) ⌝ }
+    ensures bytes { λ r. ⌜ now r ≡ row (now (table .entry)) (now (name .entry)) ⌝ }
+    ensures place { λ r. ⌜ (rowFrom (now (table .entry)) (now (name .entry)) ≤ length (now (table .entry)) → r .ptr ≡ onward (table .entry .ptr) (rowFrom (now (table .entry)) (now (name .entry)))) ⌝ }
 {
     let mut from = 0;
     let mut left = table.len();

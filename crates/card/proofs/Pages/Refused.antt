@@ -1,10 +1,11 @@
--- A page whose reader is refused gives nothing; its list of refusals rises.
+-- A page whose reader is refused gives nothing, and a page above 3 is; its list of refusals rises.
 -- Assumes nothing.
 use mathlib.Core.Path.{_≡_, refl}
 use mathlib.Core.Bool.{true, false, false≢true, _||_}
 use mathlib.Core.List.{List, []}
 use mathlib.Core.Logic.{⊎-elim}
 use Prim.Native.Nat.{ℕ}
+use native.Mathlib.Omega.{arith}
 use lib.Dec.{ltb}
 use lib.ListN.{take}
 use Rattle.card.specs.declared.packets.Shape.{Shape}
@@ -12,7 +13,7 @@ use Rattle.card.specs.declared.packets.Shape.the-variants.{Malformed, Sh
 use Rattle.registers.specs.Numbers.{DONE, VALUE, risesFrom}
 use Rattle.card.specs.Packets.{malformed, dataBytes, pageShape, dataRefusals, dataNumber, pageData}
 use Rattle.registers.proofs.Words.Bools.{cases}
-use Rattle.registers.proofs.Told.Smallest.{refuse-passed}
+use Rattle.registers.proofs.Told.Smallest.{refuse-held, refuse-passed}
 
 no-data : (s : Shape) (l : List ℕ) → malformed s ≡ true → take (dataBytes s) l ≡ []
 no-data Malformed l e = refl
@@ -28,6 +29,10 @@ data-refused r k n =
     (λ (m : malformed (pageShape r k) ≡ false). absurd (n (refuse-passed DONE VALUE (ltb 3 k || malformed (pageShape r k)) (rw (t, m)))))
     (cases (malformed (pageShape r k)))))
     (cases (ltb 3 k))
+
+pub page-refused : (r : List ℕ) (k : ℕ) → ltb 3 k ≡ true → dataNumber r k ≡ 0 → ⊥
+unfolding dataRefusals
+page-refused r k t e = let f = refuse-held VALUE (ltb 3 k || malformed (pageShape r k)) (rw t) in omega (arith, f, e)
 
 pub data-rises : (r : List ℕ) (p : ℕ) → risesFrom 2 (dataRefusals r p) ≡ true
 unfolding dataRefusals

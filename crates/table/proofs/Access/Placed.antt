@@ -14,14 +14,16 @@ use Rattle.registers.specs.Numbers.{DONE, Refusal, refuse, told, refuses}
 use Rattle.card.specs.Row.{rowBytes, putRegs}
 use Rattle.registers.specs.Registers.{interrupt}
 use Rattle.card.specs.Access.{valueRead, rowAfterRead}
-use Rattle.card.specs.Packets.{pageData}
+use Rattle.places.specs.Places.{onward}
+use Rattle.places.proofs.Places.{onward-onward}
+use Rattle.card.specs.Packets.{dataNumber, dataFrom, pageData}
 use Rattle.registers.specs.Events.{burst}
 use Rattle.registers.proofs.Told.Smallest.{refuse-held, refuse-passed, refuse-stays, told-first, told-second, told-both, none-refuses}
 use Rattle.table.specs.declared.calls.Reading.{Reading}
 use Rattle.table.specs.declared.calls.Interrupting.{Interrupting}
 use Rattle.table.specs.Numbers.{SHAPE, ROW}
 use Rattle.table.specs.Network.{rowLimit, rowStart, rows, LOST, turned, rowAt, setRow, regsAt, shape}
-use Rattle.table.specs.Calls.{placeRefusals, placeNumber, netReadNumber, netReading, netAfterRead, netWriteNumber, timerNumber, netAfterTimer, netInterrupt, netData}
+use Rattle.table.specs.Calls.{placeRefusals, placeNumber, netReadNumber, netReading, netAfterRead, netWriteNumber, timerNumber, netAfterTimer, netInterrupt, netDataFrom, netData, netDataNumber}
 use Rattle.table.proofs.Rows.Networks.{mid-row, put-row}
 use Rattle.table.proofs.Shaped.Shapes.{shape-rows, shape-within}
 
@@ -98,6 +100,16 @@ module _ (net : List ℕ) (k n : ℕ) (p : n ≡ placeNumber net k) where
   unfolding netData
   data-done g z r e = rw (← p, eq-eqb _ _ z, e)
 
+  -- the page's data stand at y, in the row at x, in the network at w
+  pub data-stands : (g : ℕ) → n ≡ 0 → (r : List ℕ) → r ≡ rowAt net k → (w x y : ℕ × ℕ) → x ≡ onward w (rowStart k)
+      → (dataNumber r g ≡ 0 → y ≡ onward x (dataFrom r g))
+      → netDataNumber net k g ≡ 0
+      → y ≡ onward w (netDataFrom net k g)
+  unfolding netDataNumber
+  data-stands g z r e w x y a h q =
+      let d = placed-asked _ z (dataNumber r g) (ap (λ (l : List ℕ). dataNumber l g) e) ∙ q in
+      onward-onward w x y _ _ a (h d) ∙ ap (λ (l : List ℕ). onward w (rowStart k + dataFrom l g)) e
+
 -- ---- a call with the number 0, whose refusals are those of the place and its own: its row is there
 module _ (net : List ℕ) (k : ℕ) where
   placed : (l : List Refusal) → told (placeRefusals net k ++ l) ≡ 0 → placeNumber net k ≡ 0
@@ -111,6 +123,10 @@ module _ (net : List ℕ) (k : ℕ) where
   pub write-placed : (g v : ℕ) → netWriteNumber net k g v ≡ 0 → placeNumber net k ≡ 0
   unfolding netWriteNumber
   write-placed g v = placed _
+
+  pub data-placed : (g : ℕ) → netDataNumber net k g ≡ 0 → placeNumber net k ≡ 0
+  unfolding netDataNumber
+  data-placed g = placed _
 
   pub timer-placed : timerNumber net k ≡ 0 → placeNumber net k ≡ 0
   unfolding timerNumber

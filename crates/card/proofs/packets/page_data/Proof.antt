@@ -1,42 +1,64 @@
--- `card::packets::page_data` meets its contract: the data stay within the row. Assumes nothing.
-use borrow.Author.Needs.{needs}
+-- `card::packets::page_data` meets its contract: the data stay within the row.
+-- Assumes nothing.
+use mathlib.Core.Path.{_≡_, _∙_}
+use mathlib.Core.List.{List}
+use Prim.Native.Nat.{ℕ, _+_, _-_, _≤_}
 use native.Mathlib.Omega.{arith}
+use lib.ListN.{take, drop}
+use borrow.Author.Needs.{needs}
 use borrow.Author.Tests.{lt-ltb, le-ltb}
-use Rattle.card.specs.Packets.{pageData}
+use Rattle.places.specs.Places.{onward}
+use Rattle.places.proofs.Places.{onward-part}
+use Rattle.card.specs.Row.{rowBytes}
+use Rattle.card.specs.Packets.{dataBytes, dataAt, pageAt, dataFrom, pageData}
 use Rattle.card.proofs.Words.Laid.{part-length}
 use Rattle.card.proofs.Pages.Sizes.{data-fits}
+use Rattle.card.proofs.Pages.Refused.{page-refused}
 use Rattle.card.proofs.packets.page_data.Statement.{statement}
 use Rattle.card.proofs.packets.page_data.Tie as tie
 
 returns : tie.Need-returns
 unfolding pageData
-returns c = simp (lt-ltb _ _ (c .before .if1 .taken))
+returns c = let t = lt-ltb _ _ (c .before .if1 .taken) in (simp t, λ e. absurd (page-refused _ _ t e))
 
-add-from : tie.Need-add-from
-add-from c =
-    let a = c .before .before in
-    let s = a .before .before .before .args in
-    omega (arith, data-fits (s .row .now) (s .page) (omega arith) (a .page-shape .result) (a .page-shape .ensures) (λ i. omega (arith, a .before .before .shared-slice-known .given i)))
+-- the data end within the row
+within : (c : tie.After-page-shape) → pageAt (c .before .before .before .args .page) + (dataAt (c .page-shape .result) + dataBytes (c .page-shape .result)) ≤ rowBytes
+within c =
+    let s = c .before .before .before .args in
+    data-fits (s .row .now) (s .page) (omega arith) (c .page-shape .result) (c .page-shape .ensures) (λ i. omega (arith, c .before .before .shared-slice-known .given i))
 
-add-to : tie.Need-add-to
-add-to c =
-    let a = c .before .before .before in
-    let s = a .before .before .before .args in
-    omega (arith, data-fits (s .row .now) (s .page) (omega arith) (a .page-shape .result) (a .page-shape .ensures) (λ i. omega (arith, a .before .before .shared-slice-known .given i)))
+-- the row, where it stands, the page, and where its data start and end, as the code has found them
+abbrev row : tie.After-data-bytes → List ℕ
+row c = c .before .before .before .before .before .before .args .row .now
 
-part-result-end-2 : tie.Need-part-result-end-2
-part-result-end-2 c =
-    let a = c .before .before .before in
-    let s = a .before .before .before .args in
-    omega (arith, data-fits (s .row .now) (s .page) (omega arith) (a .page-shape .result) (a .page-shape .ensures) (λ i. omega (arith, a .before .before .shared-slice-known .given i)))
+abbrev at : tie.After-data-bytes → ℕ × ℕ
+at c = c .before .before .before .before .before .before .args .row .ptr
 
-returns-2 : tie.Need-returns-2
+abbrev page : tie.After-data-bytes → ℕ
+page c = c .before .before .before .before .before .before .args .page
+
+abbrev from : tie.After-data-bytes → ℕ
+from c = c .before .before .page-at .result + c .before .data-at .result
+
+abbrev to : tie.After-data-bytes → ℕ
+to c = from c + c .data-bytes .result
+
+-- that stretch is the page's data
+bytes : (c : tie.After-data-bytes) → take (to c - from c) (drop (from c) (row c)) ≡ pageData (row c) (page c)
 unfolding pageData
-returns-2 c =
-    let b = c .before .before .before in
-    simp (part-length, b .page-at .ensures, c .before .before .data-at .ensures, c .before .data-bytes .ensures, b .before .page-shape .ensures, le-ltb _ _ (b .before .before .if1 .left))
+bytes c =
+    let b = c .before .before in
+    simp (part-length, b .page-at .ensures, c .before .data-at .ensures, c .data-bytes .ensures, b .before .page-shape .ensures, le-ltb _ _ (b .before .before .if1 .left))
+
+place : (c : tie.After-data-bytes) → (at c .0, from c + at c .1) ≡ onward (at c) (dataFrom (row c) (page c))
+place c =
+    let b = c .before .before in
+    onward-part _ _ ∙ simp (b .page-at .ensures, c .before .data-at .ensures, b .before .page-shape .ensures)
 
 pub page-data-spec : {M : Type 1} → statement M
 page-data-spec =
     tie.close
-    (tie.spec (λ c. search needs) (λ c. search needs) (λ c. search needs) returns (λ c κs. search needs) (λ c κs. search needs) (λ c κs. search needs) add-from (λ c κs. search needs) add-to (λ c. search needs) (λ c. search needs) part-result-end-2 returns-2)
+    (tie.spec (λ c. search needs) (λ c. search needs) (λ c. search needs) returns (λ c κs. search needs) (λ c κs. search needs) (λ c κs. search needs)
+    (λ c. omega (arith, within (c .before .before))) (λ c κs. search needs) (λ c. omega (arith, within (c .before .before .before)))
+    (λ c. search needs) (λ c. search needs) (λ c. omega (arith, within (c .before .before .before)))
+    (λ c. (bytes (c .before), λ e. place (c .before))))

@@ -2,12 +2,13 @@
 use mathlib.Core.Path.{_∙_, ap}
 use lib.ListN.{length}
 use borrow.Author.Needs.{needs}
+use Rattle.places.proofs.Places.{onward-part}
 use Rattle.desk.proofs.Forms.Records.{mid-record, length-recordAt}
 use Rattle.desk.proofs.orders.record_at.Statement.{statement}
 use Rattle.desk.proofs.orders.record_at.Tie as tie
 
 returns : tie.Need-returns
-returns c = (mid-record _ _, ap length (mid-record _ _) ∙ length-recordAt _ _ (c .before .pre))
+returns c = (mid-record _ _, (ap length (mid-record _ _) ∙ length-recordAt _ _ (c .before .pre), onward-part _ _))
 
 pub record-at-spec : {M : Type 1} → statement M
 record-at-spec =

@@ -9,4 +9,4 @@ use Rattle.words.proofs.numbers.number_at.Tie as tie
 pub number-at-spec : {M : Type 1} → statement M
 number-at-spec =
     tie.close
-    (tie.spec (λ c κs. search needs) (λ c κs. search needs) (λ c. c .decimal .ensures ∙ ap numberOf (c .before .word .ensures)))
+    (tie.spec (λ c κs. search needs) (λ c κs. search needs) (λ c. c .decimal .ensures ∙ ap numberOf (c .before .word .ensures .0)))
