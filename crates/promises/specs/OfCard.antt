@@ -2,13 +2,14 @@
 -- Assumes nothing.
 use Rattle.card.proofs.packets as packets
 use Rattle.card.proofs.row as row
-use Rattle.promises.specs.Once.{Fixed, Once}
+use Rattle.promises.specs.Once.{FixedBy, Fixed, Once, SamePart}
 
 pub record OfCard : Type 0 where
   pub malformed : Once packets.Shape.malformed.ended packets.Shape.malformed.Reads.Asked packets.Shape.malformed.Reads.Learnt
   pub storable : Once packets.Shape.storable.ended packets.Shape.storable.Reads.Asked packets.Shape.storable.Reads.Learnt
   pub page-shape : Fixed packets.page_shape.ended packets.page_shape.Reads.Learnt
   pub destination : Fixed packets.destination.ended packets.destination.Reads.Learnt
+  pub page-data : FixedBy packets.page_data.ended (λ κs. SamePart) packets.page_data.Reads.Learnt
   pub data-number : Fixed packets.data_number.ended packets.data_number.Reads.Learnt
   pub packet-at : Fixed packets.packet_at.ended packets.packet_at.Reads.Learnt
   pub store-packet : Fixed packets.store_packet.ended packets.store_packet.Reads.Learnt

@@ -2,7 +2,7 @@
 -- Assumes nothing.
 use Rattle.table.proofs.network as network
 use Rattle.table.proofs.calls as calls
-use Rattle.promises.specs.Once.{Fixed, Once}
+use Rattle.promises.specs.Once.{FixedBy, Fixed, OnceBy, Once, SamePart}
 
 pub record OfTable : Type 0 where
   pub shape : Once network.shape.ended network.shape.Reads.Asked network.shape.Reads.Learnt
@@ -10,6 +10,7 @@ pub record OfTable : Type 0 where
   pub rows : Fixed network.rows.ended network.rows.Reads.Learnt
   pub phase : Fixed network.phase.ended network.phase.Reads.Learnt
   pub holder : Fixed network.holder.ended network.holder.Reads.Learnt
+  pub row-at : FixedBy network.row_at.ended (λ κs. SamePart) network.row_at.Reads.Learnt
   pub regs-at : Fixed network.regs_at.ended network.regs_at.Reads.Learnt
   pub put-regs : Fixed network.put_regs.ended network.put_regs.Reads.Learnt
   pub turn : Fixed network.turn.ended network.turn.Reads.Learnt
@@ -23,4 +24,5 @@ pub record OfTable : Type 0 where
   pub reset : Once calls.reset.ended calls.reset.Reads.Asked calls.reset.Reads.Learnt
   pub timer : Once calls.timer.ended calls.timer.Reads.Asked calls.timer.Reads.Learnt
   pub interrupt : Once calls.interrupt.ended calls.interrupt.Reads.Asked calls.interrupt.Reads.Learnt
+  pub page-data : OnceBy calls.page_data.ended (λ κs. SamePart) calls.page_data.Reads.Asked calls.page_data.Reads.Learnt
   pub data-number : Once calls.data_number.ended calls.data_number.Reads.Asked calls.data_number.Reads.Learnt

@@ -109,7 +109,8 @@ IdleFaults = (net : List ℕ) (fault : ℕ) → fault ≤ 3 → meets fault (ste
 abbrev pub Sizes : Type 0
 Sizes = (count next : ℕ) (long : Bool) → count < 256 → next < 256 → malformed (shapeOf count next long) ≡ false → CanBeSent (dataBytes (shapeOf count next long))
 
--- ---- "no second outcome fits": the contract of every public function, crate by crate
+-- ---- "no second outcome fits": the contract of every public function, crate by crate. None is left out; two are read in a way of their own, `laps::walk` (OfDesk)
+-- and `laps::lap` (LapReads)
 pub record OneOutcome : Type 0 where
   pub registers : OfRegisters
   pub card : OfCard

@@ -1,8 +1,9 @@
 -- No second outcome fits a contract of `card`.
 -- Assumes nothing.
 use mathlib.Core.Path.{refl}
+use Rattle.card.proofs.Pages.Refused.{data-refused}
 use Rattle.promises.specs.OfCard.{OfCard}
-use Rattle.promises.proofs.Once.Same.{told, left, both}
+use Rattle.promises.proofs.Once.Same.{told, left, both, part, unrefused}
 
 pub card-once : OfCard
 card-once = record {
@@ -10,6 +11,7 @@ card-once = record {
   storable = (λ _ _. tt, λ _ _ _ _ _ _. told refl);
   page-shape = λ _ _ _ _ _ _. told refl;
   destination = λ _ _ _ _ _ _. told refl;
+  page-data = λ _ _ x x′ _ _. part x x′ refl (unrefused _ (data-refused _ _));
   data-number = λ _ _ _ _ _ _. told refl;
   packet-at = λ _ _ _ _ _ _. told refl;
   store-packet = λ _ _ _ _ _ _. left refl;

@@ -1,8 +1,9 @@
 -- No second outcome fits a contract of `table`.
 -- Assumes nothing.
-use mathlib.Core.Path.{refl}
+use mathlib.Core.Path.{refl, sym, _∙_}
+use Rattle.table.proofs.Access.Refused.{data-refused}
 use Rattle.promises.specs.OfTable.{OfTable}
-use Rattle.promises.proofs.Once.Same.{told, left, both}
+use Rattle.promises.proofs.Once.Same.{told, left, both, part, unrefused}
 
 pub table-once : OfTable
 table-once = record {
@@ -11,6 +12,7 @@ table-once = record {
   rows = λ _ _ _ _ _ _ p q. told refl (p .0) (q .0);
   phase = λ _ _ _ _ _ _. told refl;
   holder = λ _ _ _ _ _ _ p q. told refl (p .0) (q .0);
+  row-at = λ _ _ _ _ _ _ p q. ((p .0 ∙ sym (q .0), λ _. p .1 .1 ∙ sym (q .1 .1)), refl);
   regs-at = λ _ _ _ _ _ _. told refl;
   put-regs = λ _ _ _ _ _ _. left refl;
   turn = λ _ _ _ _ _ _. left refl;
@@ -24,5 +26,6 @@ table-once = record {
   reset = (λ _ _. tt, λ _ _ _ _ _ _. both refl);
   timer = (λ _ _. tt, λ _ _ _ _ _ _. both refl);
   interrupt = (λ _ _. tt, λ _ _ _ _ _ _. told refl);
+  page-data = (λ _ _. tt, λ _ _ x x′ _ _. part x x′ refl (unrefused _ (data-refused _ _ _)));
   data-number = (λ _ _. tt, λ _ _ _ _ _ _. told refl);
 }
