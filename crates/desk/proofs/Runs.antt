@@ -10,3 +10,4 @@ pub mod Told
 pub mod Back
 pub mod LapCounts
 pub mod Waits
+pub mod StepCalls

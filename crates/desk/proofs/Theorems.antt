@@ -1,7 +1,2 @@
--- The theorems of the desk: demand 3, the lap call, the sums, and what is promised of every call.
+-- Demand 3. The other theorems are in the crate `promises`, which cites it.
 pub mod Demanded
-pub mod LapCall
-pub mod Summed
-pub mod Promised
-pub mod Rising
-pub mod Standing

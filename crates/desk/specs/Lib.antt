@@ -3,5 +3,3 @@ pub mod Order
 pub mod Load
 pub mod Lap
 pub mod Demand
-pub mod Sums
-pub mod Promises

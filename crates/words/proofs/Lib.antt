@@ -3,3 +3,4 @@ pub mod Lines
 pub mod Digits
 pub mod Pairs
 pub mod Tables
+pub mod Starts

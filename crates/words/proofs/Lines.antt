@@ -79,7 +79,7 @@ module _ (stop : ℕ) where
   past-is [] = refl
   past-is (b ∷ s) = past-cons b s (eqb b stop) (past-is s)
 
-  part-nil : (k : ℕ) → part stop [] k ≡ []
+  pub part-nil : (k : ℕ) → part stop [] k ≡ []
   unfolding part upTo past
   part-nil zero = refl
   part-nil (suc k) = part-nil k

@@ -15,7 +15,7 @@ both : (b : Bool) → {l m : List ℕ} → l ≡ [] → m ≡ [] → pick b l m 
 both true e f = e
 both false e f = f
 
-row-nil : (n : ℕ) (name : List ℕ) → rowOf n [] name ≡ []
+pub row-nil : (n : ℕ) (name : List ℕ) → rowOf n [] name ≡ []
 unfolding rowOf upTo past
 row-nil zero name = refl
 row-nil (suc n) name = both (same (word [] 0) name) refl (row-nil n name)

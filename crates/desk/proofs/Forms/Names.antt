@@ -98,6 +98,9 @@ pub name-not : (order : List ℕ) (k : ℕ) → records order ≤ k → nameAt o
 unfolding nameAt
 name-not order k h = rw (le-ltb _ _ h)
 
+pub name-there : (order : List ℕ) (k : ℕ) → (nameAt order k ≡ [] → ⊥) → k < records order
+name-there order k f = ⊎-elim (λ t. ltb-true _ _ t) (λ t. absurd (f (name-not order k (ltb-false _ _ t)))) (cases (ltb k (records order)))
+
 pub name-is : (order r : List ℕ) (n k : ℕ) → n ≡ records order → k < n → r ≡ recordAt order k → trimmed (nameOf r) ≡ nameAt order k
 unfolding nameAt
 name-is order r n k e h m = rw (lt-ltb k (records order) (rw e at h), m)

@@ -7,12 +7,12 @@ use Prim.Native.Nat.{ℕ, _≤_}
 use native.Mathlib.Omega.{arith}
 use lib.Dec.{eqb, ltb}
 use borrow.Author.Tests.{not-false, eqb-true, ltb-false}
-use Rattle.registers.specs.Numbers.{DONE, BUSY, refuse, refuses}
-use Rattle.registers.proofs.Told.Smallest.{refuse-held, refuse-passed, refuse-stays, none-refuses}
+use Rattle.registers.specs.Numbers.{DONE, BUSY, Smallest, refuse, refuses}
+use Rattle.registers.proofs.Told.Smallest.{smallest, refuse-held, refuse-passed, refuse-stays, none-refuses}
 use Rattle.table.specs.Numbers.{SHAPE, ROOM}
 use Rattle.table.specs.Network.{rows, phase, LOST, shape}
 use Rattle.desk.specs.Numbers.{ALONE}
-use Rattle.desk.specs.Lap.{online, nodes, lapRefusals, lapNumber}
+use Rattle.desk.specs.Lap.{online, nodes, lapRefusals, lapNumber, lapped}
 
 module _ (net : List ℕ) (room : ℕ) where
   module _ (b : Bool) (eb : b ≡ shape net) where
@@ -27,6 +27,10 @@ module _ (net : List ℕ) (room : ℕ) where
         → k ≡ lapNumber net room
     unfolding lapNumber lapRefusals
     asked f n en m em p ep x ex y ey k e = rw (refuse-passed DONE SHAPE (not (shape net)) (ap not (sym eb) ∙ f)) (e ∙ rw (ey, ex, ep, em, en))
+
+  pub lap-smallest : Smallest (lapRefusals net room) (lapped net room .number)
+  unfolding lapRefusals lapNumber lapped
+  lap-smallest = smallest (lapRefusals net room) refl
 
   -- where the lap is not refused
   module _ (z : lapNumber net room ≡ 0) where

@@ -12,7 +12,7 @@ use Rattle.registers.proofs.Words.Bools.{and-left, pick-of}
 use Rattle.table.specs.Network.{phase, LOST, shape}
 use Rattle.line.specs.Step.{step}
 use Rattle.desk.specs.declared.laps.Taker.{Taker}
-use Rattle.desk.specs.Lap.{nodes, after, answers, invitation, passed, invitations, takers, back, lapSteps}
+use Rattle.desk.specs.Lap.{nodes, after, answers, invitation, passed, invitations, takers, back, lapSteps, runs, netAfterLap}
 use Rattle.line.proofs.Steps.View.{Rams, Alike, alike-same, alike-then, any-step}
 use Rattle.desk.proofs.Runs.Steps.{after-none, after-more, answers-none, answers-more, since, since-none, since-more, invitations-none, invitations-more, takers-more}
 use Rattle.desk.proofs.Runs.Back.{is-back, lap-steps}
@@ -24,6 +24,10 @@ alikes net s b zero = rw after-none (alike-same net s b)
 alikes net s b (suc k) =
     let a = alikes net s b k in
     rw after-more (alike-then a (any-step (after k net) (a .fits) (a .rams)))
+
+pub shape-lap : (net : List ℕ) → shape net ≡ true → Rams net → (room : ℕ) → shape (netAfterLap net room) ≡ true
+unfolding netAfterLap
+shape-lap net s b room = pick-of (λ (x : List ℕ). shape x ≡ true) (runs net room) (λ _. alikes net s b (lapSteps net) .fits) (λ _. s)
 
 pub after-add : (j k : ℕ) (net : List ℕ) → after j (after k net) ≡ after (k + j) net
 after-add zero k net = rw (after-none, add-zero)

@@ -117,6 +117,10 @@ module _ (order net : List ℕ) where
   unfolding loadNumber loadRefusals
   load-room o = rw (refuse-passed DONE ORDER (not (orderFits order)) (ap not o))
 
+  pub load-refused : (loadNumber order net ≡ 0 → ⊥) → netAfterLoad order net ≡ net
+  unfolding netAfterLoad
+  load-refused n = rw (ne-eqb _ _ n)
+
 -- ---- an order that is loaded
 module _ (order net : List ℕ) (z : loadNumber order net ≡ 0) where
   pub loaded-fits : orderFits order ≡ true

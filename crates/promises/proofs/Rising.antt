@@ -4,13 +4,12 @@ use mathlib.Core.Path.{refl}
 use Rattle.registers.proofs.Told.Smallest.{smallest}
 use Rattle.table.proofs.Access.Rising.{place-smallest, read-smallest, write-smallest, timer-smallest, interrupt-smallest, data-smallest, fresh-smallest}
 use Rattle.line.proofs.Steps.Refused.{step-smallest}
 use Rattle.desk.specs.Load.{roomRefusals}
-use Rattle.desk.specs.Lap.{lapRefusals, lapNumber, lapped}
-use Rattle.desk.specs.Promises.{SmallestWins}
+use Rattle.promises.specs.Promises.{SmallestWins}
 use Rattle.desk.proofs.Loads.Loaded.{load-order, load-room}
+use Rattle.desk.proofs.Lapping.LapNumber.{lap-smallest}
 
 pub smallest-wins : SmallestWins
-unfolding lapRefusals lapNumber lapped
 smallest-wins = record {
   read = read-smallest;
   write = write-smallest;
@@ -20,7 +19,7 @@ smallest-wins = record {
   page-data = data-smallest;
   fresh = fresh-smallest;
   step-of = step-smallest;
-  lap = λ net room. smallest (lapRefusals net room) refl;
+  lap = lap-smallest;
   load-order = load-order;
   load-room = λ order net o. rw (load-room order net o) (smallest (roomRefusals order net) refl);
 }

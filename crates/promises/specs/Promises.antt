@@ -10,17 +10,22 @@ use Rattle.card.specs.Packets.{shapeOf, dataBytes, CanBeSent, malformed}
 use Rattle.card.specs.Bystander.{Bystander, Storing, Sends}
 use Rattle.line.specs.declared.traffic.Outcome.{Outcome}
 use Rattle.line.specs.declared.step.Answer.the-variants.{Held}
-use Rattle.table.specs.Network.{headerBytes, rowLimit, rows, phase, holder, TAKEN, rowAt, regsAt, shape, SameFrame, OnlyRow, LOST, onLineAt}
+use Rattle.table.specs.Network.{headerBytes, rows, phase, holder, TAKEN, rowAt, regsAt, shape, SameFrame, OnlyRow, LOST, onLineAt}
 use Rattle.table.specs.Calls.{placeRefusals, placeNumber, netReadRefusals, netReading, netAfterRead, netWriteRefusals, netWriteNumber, netAfterWrite, netAfterReset, timerRefusals, timerNumber, netAfterTimer, netInterrupt, netData, netDataRefusals, netDataNumber, freshRefusals, freshNumber, netAfterFresh}
 use Rattle.line.specs.Step.{stepRefusals, step, answerNumber, answerValue, highest}
 use Rattle.line.specs.Outcomes.{stores, HolderLeft, meets}
 use Rattle.desk.specs.declared.laps.Taker.{Taker}
-use Rattle.desk.specs.declared.laps.Lapped.{Lapped}
 use Rattle.desk.specs.Numbers.{ORDER}
-use Rattle.desk.specs.Order.{records, orderFits, nameAt, idAt}
+use Rattle.desk.specs.Order.{records, orderFits, idAt}
 use Rattle.desk.specs.Load.{roomRefusals, loadNumber, netAfterLoad}
-use Rattle.desk.specs.Lap.{nodes, after, answers, takers, lapSteps, lapRefusals, lapNumber, lapped, netAfterLap, lapTakers, listAfterLap, Walks}
+use Rattle.desk.specs.Lap.{nodes, after, answers, takers, lapSteps, lapRefusals, lapNumber, lapped, netAfterLap, lapTakers, listAfterLap}
 use Rattle.desk.specs.Demand.{Call, table, steps, answersOf, Throughout, LapOf}
+use Rattle.promises.specs.OfRegisters.{OfRegisters}
+use Rattle.promises.specs.OfCard.{OfCard}
+use Rattle.promises.specs.OfTable.{OfTable}
+use Rattle.promises.specs.OfLine.{OfLine}
+use Rattle.promises.specs.OfDesk.{OfDesk}
+use Rattle.promises.specs.OfWords.{OfWords}
 
 -- ---- "A refusal returns 0, or length 0, beside its number, and no lent byte or entry changes": the number is a refusal's
 abbrev pub Refused : ℕ → Type 0
@@ -104,33 +109,15 @@ IdleFaults = (net : List ℕ) (fault : ℕ) → fault ≤ 3 → meets fault (ste
 abbrev pub Sizes : Type 0
 Sizes = (count next : ℕ) (long : Bool) → count < 256 → next < 256 → malformed (shapeOf count next long) ≡ false → CanBeSent (dataBytes (shapeOf count next long))
 
--- ---- "no second outcome fits": a statement that gives an answer by one equation, and what is left in the lent bytes by another
-abbrev pub Only : {A : Type 0} → A → Type 0
-Only {A} x = (r r′ : A) → r ≡ x → r′ ≡ x → r ≡ r′
-
-abbrev pub Only2 : {A B : Type 0} → A → B → Type 0
-Only2 {A} {B} x y = (r r′ : A) (a a′ : B) → (r ≡ x) × (a ≡ y) → (r′ ≡ x) × (a′ ≡ y) → (r ≡ r′) × (a ≡ a′)
-
--- for each entry point, what its `ensures` say; `laps::walk` hands back a list of sixty
+-- ---- "no second outcome fits": the contract of every public function, crate by crate. None is left out; two are read in a way of their own, `laps::walk` (OfDesk)
+-- and `laps::lap` (LapReads)
 pub record OneOutcome : Type 0 where
-  pub shape-of : (net : List ℕ) → Only (shape net)
-  pub fresh : (net : List ℕ) (n : ℕ) → Only2 (freshNumber net n) (netAfterFresh net n)
-  pub read : (net : List ℕ) (k g : ℕ) → Only2 (netReading net k g) (netAfterRead net k g)
-  pub write : (net : List ℕ) (k g v : ℕ) → Only2 (netWriteNumber net k g v) (netAfterWrite net k g v)
-  pub reset : (net : List ℕ) (k : ℕ) → Only2 (placeNumber net k) (netAfterReset net k)
-  pub timer : (net : List ℕ) (k : ℕ) → Only2 (timerNumber net k) (netAfterTimer net k)
-  pub interrupt : (net : List ℕ) (k : ℕ) → Only (netInterrupt net k)
-  pub page-data : (net : List ℕ) (k p : ℕ) → Only (netData net k p)
-  pub data-number : (net : List ℕ) (k p : ℕ) → Only (netDataNumber net k p)
-  pub step-of : (net : List ℕ) (fault : ℕ) → Only2 (step net fault .answer) (step net fault .after)
-  pub records-of : (order : List ℕ) → Only (records order)
-  pub order-fits : (order : List ℕ) → Only (orderFits order)
-  pub name-at : (order : List ℕ) (k : ℕ) → Only (nameAt order k)
-  pub load : (order net : List ℕ) → Only2 (loadNumber order net) (netAfterLoad order net)
-  pub walk : (net : List ℕ) (room n n′ : ℕ) (list list′ : List Taker) (done done′ : Lapped) (new new′ : List ℕ) → length list ≡ rowLimit → length list′ ≡ rowLimit
-      → Walks net room n list done new → Walks net room n′ list′ done′ new′ → (n ≡ n′) × ((list ≡ list′) × ((done ≡ done′) × (new ≡ new′)))
-  pub lap : (net : List ℕ) (list : List Taker) → Only2 (lapped net (length list)) (netAfterLap net (length list))
-  pub lap-list : (net : List ℕ) (list : List Taker) → Only (listAfterLap net list)
+  pub registers : OfRegisters
+  pub card : OfCard
+  pub table : OfTable
+  pub line : OfLine
+  pub desk : OfDesk
+  pub words : OfWords
 
 -- ---- the lap call is the lap: where it is not refused, its total, its entries and the network that it leaves are those of a lap, whose steps iterate the step;
 -- "it makes 256 + 2n line steps", and writes n entries

@@ -8,12 +8,12 @@ use Rattle.card.proofs.CardSums.{count-2, count-3, count-255, long-3, long-4, l
 use Rattle.registers.proofs.Values.Sums.{page-2C, page-0B, nid-255, pointer-1023, status-reset, status-written}
 use Rattle.table.specs.Network.{rows, topId}
 use Rattle.table.proofs.Shaped.Alike.{bytes-rams}
 use Rattle.desk.specs.Lap.{nodes, answers, invitations, takers, lapSteps}
 use Rattle.desk.specs.Demand.{Ready, idsOnLine}
-use Rattle.desk.specs.Sums.{hopOf, Sums}
+use Rattle.promises.specs.Sums.{hopOf, Sums}
 use Rattle.desk.proofs.Runs.Hops.{gaps}
 use Rattle.desk.proofs.Runs.LapCounts.{lap-total, lap-hops}
 use Rattle.desk.proofs.Theorems.Demanded.{ids-roster}
 
 module _ (net : List ℕ) (r : Ready net) where
   hop : topId net (rows net) ≡ 200 → (l : List ℕ) → idsOnLine net ≡ 7 ∷ l

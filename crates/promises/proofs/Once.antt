@@ -1,0 +1,9 @@
+-- No second outcome fits a contract: crate by crate.
+pub mod Same
+pub mod Sixty
+pub mod Registers
+pub mod Card
+pub mod Table
+pub mod Line
+pub mod Desk
+pub mod Words

@@ -1,0 +1,25 @@
+-- No second outcome fits a contract of `desk`.
+-- Assumes nothing.
+use mathlib.Core.Path.{refl, sym, _∙_}
+use Rattle.desk.proofs.Forms.Names.{name-there}
+use Rattle.desk.proofs.Lapping.LapLeaves.{only-walk}
+use Rattle.promises.specs.OfDesk.{OfDesk}
+use Rattle.promises.proofs.Once.Same.{told, both-right, part}
+use Rattle.promises.proofs.Once.Sixty.{sixty}
+
+pub desk-once : OfDesk
+desk-once = record {
+  records = (λ _ _. tt, λ _ _ _ _ _ _. told refl);
+  name-at = (λ _ _. tt, λ _ _ x x′ _ _. part x x′ refl (name-there _ _));
+  load = (λ _ _. tt, λ _ _ _ _ _ _. both-right refl);
+  walk = (
+    λ κs a. tt,
+    λ κs a x x′ w w′ p q. (
+      λ o o′.
+          let e = only-walk _ _ _ _ _ _ _ _ _ _ (sixty κs x o) (sixty κs x′ o′) p q in
+          λ i. record { lapped = e .1 .1 .0 i; n = e .0 i; list = e .1 .0 i },
+      λ i. ((p .5 ∙ sym (q .5)) i, (tt, tt)),
+    ),
+  );
+  lap = (λ _ _. tt, λ κs a x x′ w w′ p q. (p .0 ∙ sym (q .0), λ i. ((p .1 ∙ sym (q .1)) i, ((p .2 ∙ sym (q .2)) i, tt))));
+}

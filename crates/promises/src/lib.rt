@@ -1,0 +1,1 @@
+// What the contracts of the crates below promise together. There is no code here: see specs/ and proofs/.
