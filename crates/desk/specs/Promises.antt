@@ -20,7 +20,7 @@ use Rattle.desk.specs.Numbers.{ORDER}
 use Rattle.desk.specs.Order.{records, orderFits, nameAt, idAt}
 use Rattle.desk.specs.Load.{roomRefusals, loadNumber, netAfterLoad}
 use Rattle.desk.specs.Lap.{nodes, after, answers, takers, lapSteps, lapRefusals, lapNumber, lapped, netAfterLap, lapTakers, listAfterLap, Walks}
-use Rattle.desk.specs.Demand.{Call, table, steps, answersOf, Throughout, LapOf}
+use Rattle.desk.specs.Demand.{Call, table, steps, answersOf, Throughout, LapOf, FirstLapOf}
 
 -- ---- "A refusal returns 0, or length 0, beside its number, and no lent byte or entry changes": the number is a refusal's
 abbrev pub Refused : ℕ → Type 0
@@ -135,7 +135,7 @@ pub record OneOutcome : Type 0 where
 -- ---- the lap call is the lap: where it is not refused, its total, its entries and the network that it leaves are those of a lap, whose steps iterate the step;
 -- "it makes 256 + 2n line steps", and writes n entries
 pub record TheLap (net : List ℕ) (room : ℕ) : Type 0 where
-  pub lap : LapOf net (answers (lapSteps net) net) (lapped net room .total) (netAfterLap net room)
+  pub lap : FirstLapOf net (answers (lapSteps net) net) (lapped net room .total) (netAfterLap net room)
   pub total : lapped net room .total ≡ 256 + nodes net
   pub entries : lapTakers net room ≡ takers net 0 (answers (lapSteps net) net)
   pub count : length (lapTakers net room) ≡ nodes net

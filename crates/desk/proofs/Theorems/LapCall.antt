@@ -10,7 +10,7 @@ use Rattle.table.proofs.Shaped.Alike.{bytes-rams}
 use Rattle.line.proofs.Steps.View.{Alike, alike-same, alike-then, any-step}
 use Rattle.table.proofs.Access.Calm.{alike-nodes}
 use Rattle.desk.specs.Lap.{nodes, after, answers, lapSteps, lapNumber, lapped, netAfterLap, lapTakers}
-use Rattle.desk.specs.Demand.{Call, Step, Ready, table, steps, answersOf, Throughout, LapOf}
+use Rattle.desk.specs.Demand.{Call, Step, Ready, table, steps, answersOf, Throughout, FirstLapOf}
 use Rattle.desk.specs.Promises.{LapCallIsTheLap}
 use Rattle.desk.proofs.Lapping.LapNumber.{lap-shape, lap-lost, lap-two}
 use Rattle.desk.proofs.Runs.Back.{lap-steps, lap-phase, lap-holder}
@@ -72,10 +72,10 @@ lap-call net bytes room z =
     let k = lapSteps net in
     let made = lap-steps net s b l t in
     let first = demand3 net r (stepCalls k []) (throughout-only k net a) .0 (count-only k net ∙ made) in
-    let lap : LapOf net (answers k net) (256 + nodes net) (after k net) = rw (answers-steps k net, table-only k net) at first in
+    let lap : FirstLapOf net (answers k net) (256 + nodes net) (after k net) = rw (answers-steps k net, table-only k net) at first in
     record {
-      lap = rw (f, lap .invited) lap;
-      total = rw f (lap .invited);
+      lap = rw (f, lap .lap .invited) lap;
+      total = rw f (lap .lap .invited);
       entries = rw f;
       count = rw f (lap-entries net s b l t);
       made = made;
