@@ -4,12 +4,12 @@ use mathlib.Core.Path.{_≡_}
 use mathlib.Core.Bool.{true}
 use mathlib.Core.List.{List, [], _∷_, map}
 use Prim.Native.Nat.{ℕ, zero, suc, _+_, _*_, _≤_, _<_}
-use lib.ListN.{length, getD}
+use lib.ListN.{length}
 use Rattle.registers.specs.Words.{pick}
 use Rattle.line.specs.declared.step.Answer.{Answer}
 use Rattle.line.specs.declared.step.Answer.the-variants.{Recovered, Passed}
 use Rattle.table.specs.Folds.{some}
-use Rattle.table.specs.Network.{rows, phase, holder, LOST, TAKEN, isNode, shape, SameNodes}
+use Rattle.table.specs.Network.{Bytes, rows, phase, holder, LOST, TAKEN, isNode, shape, SameNodes}
 use Rattle.table.specs.Calls.{netAfterRead, netAfterWrite, netAfterReset}
 use Rattle.line.specs.Step.{highest, step}
 use Rattle.desk.specs.declared.laps.Taker.{Taker}
@@ -117,7 +117,7 @@ pub record FirstLapOf (start : List ℕ) (l : List Answer) (i : ℕ) (end : List
 
 -- a network that a lap may be run of: of bytes, well formed, in LOST, with two nodes on line or more
 pub record Ready (net : List ℕ) : Type 0 where
-  pub bytes : (i : ℕ) → getD net i 0 < 256
+  pub bytes : Bytes net
   pub fits : shape net ≡ true
   pub lost : phase net ≡ LOST
   pub two : 2 ≤ nodes net

@@ -3,10 +3,9 @@
 use mathlib.Core.Path.{_≡_}
 use mathlib.Core.Bool.{true}
 use mathlib.Core.List.{List}
-use Prim.Native.Nat.{ℕ, _<_}
-use lib.ListN.{getD}
+use Prim.Native.Nat.{ℕ}
 use Rattle.registers.proofs.Words.Bools.{pick-of}
-use Rattle.table.specs.Network.{shape}
+use Rattle.table.specs.Network.{Bytes, shape}
 use Rattle.table.proofs.Shaped.Alike.{bytes-rams}
 use Rattle.table.proofs.Access.ShapeCalls.{shape-read, shape-write, shape-reset, shape-timer, shape-fresh-call}
 use Rattle.line.proofs.Steps.StepBy.{sound-step}
@@ -15,7 +14,7 @@ use Rattle.desk.specs.Promises.{StaysWellFormed, LoadingGives}
 use Rattle.desk.proofs.Loads.Loaded.{loaded-shape, loaded-rows, loaded-lost, loaded-row}
 use Rattle.desk.proofs.Lapping.Walking.{alikes}
 
-shape-lap : (net : List ℕ) → ((i : ℕ) → getD net i 0 < 256) → shape net ≡ true → (room : ℕ) → shape (netAfterLap net room) ≡ true
+shape-lap : (net : List ℕ) → Bytes net → shape net ≡ true → (room : ℕ) → shape (netAfterLap net room) ≡ true
 unfolding netAfterLap
 shape-lap net b s room = pick-of (λ (x : List ℕ). shape x ≡ true) (runs net room) (λ _. alikes net s (bytes-rams net s b) (lapSteps net) .fits) (λ _. s)
 
