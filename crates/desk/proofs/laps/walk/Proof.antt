@@ -24,8 +24,7 @@ returns-2 c =
     let i = r .before .before in
     let q = r .run .ensures in
     let n = i .before .lap-number .ensures in
-    let bytes = i .before .before .before .slice-known .given in
-    (
+    let bytes = i .before .before .before .slice-known .given in (
       run _ _ _ n (i .if1 .left) _ _ _ _ (q .0, q .1 .0, q .1 .1 .0, q .1 .1 .1 .0, q .1 .1 .1 .1),
       λ _. total _ _ _ n (i .if1 .left) (λ j. omega (arith, bytes j)) _ (q .0),
     )
