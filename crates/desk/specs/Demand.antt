@@ -100,11 +100,11 @@ Until a (b ∷ c ∷ l) = (b ≡ a → ⊥) × Until a (c ∷ l)
 pub record LapOf (start : List ℕ) (l : List Answer) (i : ℕ) (end : List ℕ) : Type 0 where
   -- the Unanswered and Passed answers
   pub invited : invitations l ≡ i
-  -- "each on-line node takes it exactly once, lowest ID first"
+  -- "each on-line node takes it exactly once, lowest ID first": n in all
   pub taken : map (λ (t : Taker). t .id) (takers start 0 l) ≡ idsOnLine start
+  pub count : length (takers start 0 l) ≡ nodes start
   -- "in whichever rows they stand": the row that an entry names carries its ID
   pub in-rows : ByNodes start (takers start 0 l)
-  pub count : length (takers start 0 l) ≡ nodes start
   -- "until the token is back with the highest ID": the last answer passes it to that ID's row, and no answer before it does; there it is held
   pub until : Until (Passed (highest start)) l
   pub back : phase end ≡ TAKEN

@@ -102,8 +102,8 @@ module _ (start : List ℕ) (s : shape start ≡ true) (b : Rams start) (lost : 
       record {
         invited = invitations-seen start a ∙ ap invites (w .told) ∙ e;
         taken = taken ∙ sym (ids-roster start);
-        in-rows = by-nodes start a 0 (w .to-nodes);
         count = sym (length-map (takers start 0 a) (λ (t : Taker). t .id)) ∙ ap length taken ∙ back.roster-nodes start s b lost two;
+        in-rows = by-nodes start a 0 (w .to-nodes);
         until = until start s _ (highest start) (q .0) (q .1) (back.held-id start s b lost two) a (w .to-nodes) (rw (w .told) c);
         back = h .0;
         with = h .1;
