@@ -5,6 +5,7 @@ pub mod Hops
 pub mod Shows
 pub mod Follow
 pub mod InRows
+pub mod Ended
 pub mod History
 pub mod Told
 pub mod Back

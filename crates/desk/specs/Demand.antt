@@ -4,11 +4,12 @@ use mathlib.Core.Path.{_≡_}
 use mathlib.Core.Bool.{true}
 use mathlib.Core.List.{List, [], _∷_, map}
 use Prim.Native.Nat.{ℕ, zero, suc, _+_, _*_, _≤_, _<_}
-use lib.ListN.{getD}
+use lib.ListN.{length}
 use Rattle.registers.specs.Words.{pick}
 use Rattle.line.specs.declared.step.Answer.{Answer}
+use Rattle.line.specs.declared.step.Answer.the-variants.{Recovered, Passed}
 use Rattle.table.specs.Folds.{some}
-use Rattle.table.specs.Network.{rows, phase, holder, LOST, TAKEN, isNode, shape, SameNodes}
+use Rattle.table.specs.Network.{Bytes, rows, phase, holder, LOST, TAKEN, isNode, shape, SameNodes}
 use Rattle.table.specs.Calls.{netAfterRead, netAfterWrite, netAfterReset}
 use Rattle.line.specs.Step.{highest, step}
 use Rattle.desk.specs.declared.laps.Taker.{Taker}
@@ -84,21 +85,39 @@ unfoldable pub ByNodes : List ℕ → List Taker → Type 0
 ByNodes start [] = Unit {0}
 ByNodes start (t ∷ l) = (t .row < rows start) × ((isNode start (t .id) (t .row) ≡ true) × ByNodes start l)
 
+-- the first of the answers is a
+abbrev pub From : Answer → List Answer → Type 0
+From a [] = ⊥
+From a (b ∷ l) = b ≡ a
+
+-- the last of the answers is a, and none before it is
+unfoldable pub Until : Answer → List Answer → Type 0
+Until a [] = ⊥
+Until a (b ∷ []) = b ≡ a
+Until a (b ∷ c ∷ l) = (b ≡ a → ⊥) × Until a (c ∷ l)
+
 -- a lap of the nodes of `start`: what its steps answered, with i invitations, and the network that it ends with
 pub record LapOf (start : List ℕ) (l : List Answer) (i : ℕ) (end : List ℕ) : Type 0 where
   -- the Unanswered and Passed answers
   pub invited : invitations l ≡ i
-  -- "each on-line node takes it exactly once, lowest ID first"
+  -- "each on-line node takes it exactly once, lowest ID first": n in all
   pub taken : map (λ (t : Taker). t .id) (takers start 0 l) ≡ idsOnLine start
+  pub count : length (takers start 0 l) ≡ nodes start
   -- "in whichever rows they stand": the row that an entry names carries its ID
   pub in-rows : ByNodes start (takers start 0 l)
-  -- "until the token is back with the highest ID"
+  -- "until the token is back with the highest ID": the last answer passes it to that ID's row, and no answer before it does; there it is held
+  pub until : Until (Passed (highest start)) l
   pub back : phase end ≡ TAKEN
   pub with : holder end ≡ highest start
 
+-- the first lap, "from recovery": the first answer is that the row of the highest ID holds
+pub record FirstLapOf (start : List ℕ) (l : List Answer) (i : ℕ) (end : List ℕ) : Type 0 where
+  pub from : From (Recovered (highest start)) l
+  pub lap : LapOf start l i end
+
 -- a network that a lap may be run of: of bytes, well formed, in LOST, with two nodes on line or more
 pub record Ready (net : List ℕ) : Type 0 where
-  pub bytes : (i : ℕ) → getD net i 0 < 256
+  pub bytes : Bytes net
   pub fits : shape net ≡ true
   pub lost : phase net ≡ LOST
   pub two : 2 ≤ nodes net
@@ -108,6 +127,6 @@ pub record Ready (net : List ℕ) : Type 0 where
 abbrev pub Demand3 : Type 0
 Demand3 =
     (net : List ℕ) → Ready net → (l : List Call) → Throughout net l net
-    → (steps l ≡ 256 + 2 * nodes net → LapOf net (answersOf l net) (256 + nodes net) (table l net))
+    → (steps l ≡ 256 + 2 * nodes net → FirstLapOf net (answersOf l net) (256 + nodes net) (table l net))
     × ((m : ℕ) → steps l ≡ 256 + 2 * nodes net + m * (2 * nodes net) → (l′ : List Call) → Throughout net l′ (table l net) → steps l′ ≡ 2 * nodes net
     → LapOf net (answersOf l′ (table l net)) (nodes net) (table l′ (table l net)))

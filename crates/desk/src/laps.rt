@@ -2,7 +2,7 @@
 ghost use mathlib.Core.Path.{_≡_};
 ghost use mathlib.Core.Bool.{true};
 ghost use mathlib.Core.List.{_++_};
-ghost use Prim.Native.Nat.{_≤_};
+ghost use Prim.Native.Nat.{_+_, _≤_};
 ghost use lib.ListN.{length, take, drop};
 ghost use Rattle.table.specs.Network.{rowLimit, LOST, rowStart, phase, shape};
 ghost use Rattle.desk.specs.Lap.{online, nodes, invitation, passed, invitations, takers, answers, after, lapSteps, lapNumber, lapped, netAfterLap, listAfterLap, nobody, Walks};
@@ -159,6 +159,7 @@ fn run(net: &mut [u8]) -> Walked
 // The lap, for a list of `room` entries; the entries past n are nobody's.
 pub fn walk(net: &mut [u8], room: usize) -> Walked
     ensures { λ r. ⌜ Walks (now (net .entry)) room (r .n) (r .list) (r .lapped) (now (net .exit)) ⌝ }
+    ensures total { λ r. ⌜ (r .lapped .number ≡ 0 → r .lapped .total ≡ 256 + nodes (now (net .entry))) ⌝ }
 {
     let number = lap_number(net, room);
     if number != DONE {
@@ -188,6 +189,7 @@ pub fn lap(net: &mut [u8], takers: &mut [Taker]) -> Lapped
     ensures { λ r. ⌜ (r ≡ lapped (now (net .entry)) (length (now (takers .entry))))
         × (now (net .exit) ≡ netAfterLap (now (net .entry)) (length (now (takers .entry))))
         × (now (takers .exit) ≡ listAfterLap (now (net .entry)) (now (takers .entry))) ⌝ }
+    ensures total { λ r. ⌜ (r .number ≡ 0 → r .total ≡ 256 + nodes (now (net .entry))) ⌝ }
 {
     let w = walk(net, takers.len());
     fill(takers, w.list, w.n);

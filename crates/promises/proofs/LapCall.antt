@@ -7,7 +7,7 @@ use native.Mathlib.Omega.{arith}
 use Rattle.table.proofs.Shaped.Alike.{bytes-rams}
 use Rattle.line.proofs.Steps.View.{alike-same}
 use Rattle.desk.specs.Lap.{nodes, after, answers, lapSteps}
-use Rattle.desk.specs.Demand.{Ready, LapOf, Demand3}
+use Rattle.desk.specs.Demand.{Ready, FirstLapOf, Demand3}
 use Rattle.promises.specs.Promises.{LapCallIsTheLap}
 use Rattle.desk.proofs.Lapping.LapNumber.{lap-shape, lap-lost, lap-two}
 use Rattle.desk.proofs.Lapping.LapLeaves.{done-total, done-leaves, done-entries}
@@ -30,10 +30,10 @@ lap-call net bytes room z =
     let k = lapSteps net in
     let made = lap-steps net s b l t in
     let first = demand3 net r (stepCalls k []) (throughout-only k net a) .0 (count-only k net ∙ made) in
-    let lap : LapOf net (answers k net) (256 + nodes net) (after k net) = rw (answers-steps k net, table-only k net) at first in
+    let lap : FirstLapOf net (answers k net) (256 + nodes net) (after k net) = rw (answers-steps k net, table-only k net) at first in
     record {
-      lap = rw (done-total net room z, lap .invited, done-leaves net room z) lap;
-      total = done-total net room z ∙ lap .invited;
+      lap = rw (done-total net room z, lap .lap .invited, done-leaves net room z) lap;
+      total = done-total net room z ∙ lap .lap .invited;
       entries = done-entries net room z;
       count = rw (done-entries net room z) (lap-entries net s b l t);
       made = made;

@@ -10,7 +10,7 @@ use Rattle.card.specs.Packets.{shapeOf, dataBytes, CanBeSent, malformed}
 use Rattle.card.specs.Bystander.{Bystander, Storing, Sends}
 use Rattle.line.specs.declared.traffic.Outcome.{Outcome}
 use Rattle.line.specs.declared.step.Answer.the-variants.{Held}
-use Rattle.table.specs.Network.{headerBytes, rows, phase, holder, TAKEN, rowAt, regsAt, shape, SameFrame, OnlyRow, LOST, onLineAt}
+use Rattle.table.specs.Network.{headerBytes, rows, phase, holder, Bytes, TAKEN, rowAt, regsAt, shape, SameFrame, OnlyRow, LOST, onLineAt}
 use Rattle.table.specs.Calls.{placeRefusals, placeNumber, netReadRefusals, netReading, netAfterRead, netWriteRefusals, netWriteNumber, netAfterWrite, netAfterReset, timerRefusals, timerNumber, netAfterTimer, netInterrupt, netData, netDataRefusals, netDataNumber, freshRefusals, freshNumber, netAfterFresh}
 use Rattle.line.specs.Step.{stepRefusals, step, answerNumber, answerValue, highest}
 use Rattle.line.specs.Outcomes.{stores, HolderLeft, meets}
@@ -19,7 +19,7 @@ use Rattle.desk.specs.Numbers.{ORDER}
 use Rattle.desk.specs.Order.{records, orderFits, idAt}
 use Rattle.desk.specs.Load.{roomRefusals, loadNumber, netAfterLoad}
 use Rattle.desk.specs.Lap.{nodes, after, answers, takers, lapSteps, lapRefusals, lapNumber, lapped, netAfterLap, lapTakers, listAfterLap}
-use Rattle.desk.specs.Demand.{Call, table, steps, answersOf, Throughout, LapOf}
+use Rattle.desk.specs.Demand.{Call, table, steps, answersOf, Throughout, LapOf, FirstLapOf}
 use Rattle.promises.specs.OfRegisters.{OfRegisters}
 use Rattle.promises.specs.OfCard.{OfCard}
 use Rattle.promises.specs.OfTable.{OfTable}
@@ -64,8 +64,8 @@ pub record StaysWellFormed : Type 0 where
   pub write : (net : List ℕ) → shape net ≡ true → (k g v : ℕ) → shape (netAfterWrite net k g v) ≡ true
   pub reset : (net : List ℕ) → shape net ≡ true → (k : ℕ) → shape (netAfterReset net k) ≡ true
   pub timer : (net : List ℕ) → shape net ≡ true → (k : ℕ) → shape (netAfterTimer net k) ≡ true
-  pub step-of : (net : List ℕ) → ((i : ℕ) → getD net i 0 < 256) → shape net ≡ true → (fault : ℕ) → shape (step net fault .after) ≡ true
-  pub lap : (net : List ℕ) → ((i : ℕ) → getD net i 0 < 256) → shape net ≡ true → (room : ℕ) → shape (netAfterLap net room) ≡ true
+  pub step-of : (net : List ℕ) → Bytes net → shape net ≡ true → (fault : ℕ) → shape (step net fault .after) ≡ true
+  pub lap : (net : List ℕ) → Bytes net → shape net ≡ true → (room : ℕ) → shape (netAfterLap net room) ≡ true
   pub fresh : (net : List ℕ) (n : ℕ) → freshNumber net n ≡ 0 → shape (netAfterFresh net n) ≡ true
   pub load : (order net : List ℕ) → loadNumber order net ≡ 0 → shape (netAfterLoad order net) ≡ true
 
@@ -88,17 +88,17 @@ pub record NoOtherRow : Type 0 where
   pub write : (net : List ℕ) (k g v : ℕ) → OnlyRow net (netAfterWrite net k g v) k
   pub reset : (net : List ℕ) (k : ℕ) → OnlyRow net (netAfterReset net k) k
   pub timer : (net : List ℕ) (k : ℕ) → OnlyRow net (netAfterTimer net k) k
-  pub step-frame : (net : List ℕ) → ((i : ℕ) → getD net i 0 < 256) → shape net ≡ true → (fault : ℕ) → SameFrame net (step net fault .after)
-  pub step-row : (net : List ℕ) → ((i : ℕ) → getD net i 0 < 256) → shape net ≡ true → (fault j : ℕ) → j < rows net → (phase net ≡ TAKEN → j ≡ holder net → ⊥)
+  pub step-frame : (net : List ℕ) → Bytes net → shape net ≡ true → (fault : ℕ) → SameFrame net (step net fault .after)
+  pub step-row : (net : List ℕ) → Bytes net → shape net ≡ true → (fault j : ℕ) → j < rows net → (phase net ≡ TAKEN → j ≡ holder net → ⊥)
       → (stores net fault j ≡ true → Storing (rowAt net j) (rowAt (step net fault .after) j))
       × (stores net fault j ≡ false → Bystander (rowAt net j) (rowAt (step net fault .after) j))
-  pub step-holder : (net : List ℕ) → ((i : ℕ) → getD net i 0 < 256) → shape net ≡ true → phase net ≡ TAKEN → (fault : ℕ)
+  pub step-holder : (net : List ℕ) → Bytes net → shape net ≡ true → phase net ≡ TAKEN → (fault : ℕ)
       → Sends (rowAt net (holder net)) (rowAt (step net fault .after) (holder net))
 
 -- ---- the values that document 01 gives for each outcome: all the holder's registers after a step that answers Held, and so TA, TMA and byte 13
 abbrev pub OutcomesSay : Type 0
 OutcomesSay =
-    (net : List ℕ) → ((i : ℕ) → getD net i 0 < 256) → shape net ≡ true → phase net ≡ TAKEN → (fault : ℕ) (o : Outcome) → step net fault .answer ≡ Held o
+    (net : List ℕ) → Bytes net → shape net ≡ true → phase net ≡ TAKEN → (fault : ℕ) (o : Outcome) → step net fault .answer ≡ Held o
     → HolderLeft (regsAt net (holder net)) (regsAt (step net fault .after) (holder net)) o
 
 -- ---- "A fault that meets no message of its kind does nothing"
@@ -122,7 +122,7 @@ pub record OneOutcome : Type 0 where
 -- ---- the lap call is the lap: where it is not refused, its total, its entries and the network that it leaves are those of a lap, whose steps iterate the step;
 -- "it makes 256 + 2n line steps", and writes n entries
 pub record TheLap (net : List ℕ) (room : ℕ) : Type 0 where
-  pub lap : LapOf net (answers (lapSteps net) net) (lapped net room .total) (netAfterLap net room)
+  pub lap : FirstLapOf net (answers (lapSteps net) net) (lapped net room .total) (netAfterLap net room)
   pub total : lapped net room .total ≡ 256 + nodes net
   pub entries : lapTakers net room ≡ takers net 0 (answers (lapSteps net) net)
   pub count : length (lapTakers net room) ≡ nodes net
@@ -137,4 +137,4 @@ pub record TheLap (net : List ℕ) (room : ℕ) : Type 0 where
       → LapOf net (answersOf l′ (table l (netAfterLap net room))) (nodes net) (table l′ (table l (netAfterLap net room)))
 
 abbrev pub LapCallIsTheLap : Type 0
-LapCallIsTheLap = (net : List ℕ) → ((i : ℕ) → getD net i 0 < 256) → (room : ℕ) → lapNumber net room ≡ 0 → TheLap net room
+LapCallIsTheLap = (net : List ℕ) → Bytes net → (room : ℕ) → lapNumber net room ≡ 0 → TheLap net room

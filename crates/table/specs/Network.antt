@@ -41,6 +41,10 @@ PASS = 1
 abbrev pub TAKEN : ℕ
 TAKEN = 2
 
+-- what a lent `[u8]` is by its type: of bytes
+abbrev pub Bytes : List ℕ → Type 0
+Bytes net = (i : ℕ) → getD net i 0 < 256
+
 -- the network in another phase, with another holder
 unfoldable pub turned : List ℕ → ℕ → ℕ → List ℕ
 turned net p h = set (set net 4 p) 5 h

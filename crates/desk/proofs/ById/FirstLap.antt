@@ -8,7 +8,7 @@ use Prim.Native.Nat.{ℕ, zero, suc, _+_, _*_, _%_, _<_, _≤_}
 use native.Mathlib.Omega.{arith}
 use lib.Dec.{eqb}
 use lib.ListN.{length, length-append}
-use borrow.Author.Tests.{ne-eqb}
+use borrow.Author.Tests.{eq-eqb, ne-eqb}
 use Rattle.desk.proofs.ById.Ring.{Telling, Took, Missed, Spoke, Ring, next, upd, turn, Runs, go, calls, roster, script}
 use Rattle.desk.proofs.ById.Scan.{last, Linked, Off, off-later, off-here, own, hear, miss, scan, Scanned, Scanning, upd-same, upd-other}
 use Rattle.desk.proofs.ById.Roster.{takes, invites, takes-append, invites-append, script-takes, script-counts, rotate, roster-is, last-any}
@@ -22,6 +22,25 @@ other h Spoke = false
 abbrev pub Never : ℕ → List Telling → Type 0
 Never h [] = Unit {0}
 Never h (a ∷ l) = (other h a ≡ false) × Never h l
+
+-- the last call is that h took the token, and none before it is
+unfoldable pub Closes : ℕ → List Telling → Type 0
+Closes h [] = ⊥
+Closes h (a ∷ []) = other h a ≡ true
+Closes h (a ∷ b ∷ l) = (other h a ≡ false) × Closes h (b ∷ l)
+
+pub closes-now : (h : ℕ) → Closes h (Took h ∷ [])
+unfolding Closes
+closes-now h = eq-eqb h h refl
+
+pub closes-more : (h : ℕ) (a : Telling) (l : List Telling) → other h a ≡ false → Closes h l → Closes h (a ∷ l)
+unfolding Closes
+closes-more h a [] n c = absurd c
+closes-more h a (b ∷ l) n c = (n, c)
+
+closes : (h : ℕ) (l : List Telling) → Never h l → Closes h (l ++ (Took h ∷ []))
+closes h [] n = closes-now h
+closes h (a ∷ l) n = closes-more h a _ (n .0) (closes h l (n .1))
 
 linked-last : (xs : List ℕ) (g v : ℕ) (f : ℕ → ℕ) → Linked f g (xs ++ (v ∷ [])) → f (last g xs) ≡ v
 linked-last [] g v f l = l .0
@@ -87,6 +106,9 @@ module _ (on : ℕ → Bool) where
 
     pub never-before : Never h before
     never-before = (refl, never h 255 (suc h) (begin .away))
+
+    pub lap-closes : Closes h (before ++ (Took h ∷ []))
+    lap-closes = closes h before never-before
 
     -- each on-line ID takes the token once, lowest first
     pub lap-takes : takes (before ++ (Took h ∷ [])) ≡ roster on

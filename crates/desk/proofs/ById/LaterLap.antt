@@ -7,10 +7,11 @@ use mathlib.Core.List.{List, [], _∷_, _++_}
 use Prim.Native.Nat.{ℕ, zero, suc, _+_, _*_, _%_, _<_, _≤_}
 use native.Mathlib.Omega.{arith}
 use lib.ListN.{length}
+use borrow.Author.Tests.{ne-eqb}
 use Rattle.desk.proofs.ById.Ring.{Telling, Took, Spoke, Ring, Runs, stop, go, calls, roster}
 use Rattle.desk.proofs.ById.Scan.{last, Linked, Off, off-first, off-later, off-here, hear}
 use Rattle.desk.proofs.ById.Roster.{takes, invites, roster-is}
-use Rattle.desk.proofs.ById.FirstLap.{lap, back, begin}
+use Rattle.desk.proofs.ById.FirstLap.{Closes, closes-now, closes-more, lap, back, begin}
 
 -- what is told: each in turn has its turn, and passes the token to the next
 abbrev pub settled : List ℕ → List Telling
@@ -52,6 +53,16 @@ module _ (on : ℕ → Bool) where
       case true e i j = rw e (λ n. (e, λ q. off-here g a k w (sym q), j n))
       case false e i j = rw e i
 
+  -- the token is back with h at the end, and not before
+  closes-around : (h k a : ℕ) → Off h a k → Closes h (settled (calls on a k ++ (h ∷ [])))
+  unfolding calls
+  closes-around h zero a o = closes-more h Spoke _ refl (closes-now h)
+  closes-around h (suc k) a o = case (on (a % 256)) refl (closes-around h k (suc a) (off-later h a k o))
+    where
+      case : (b : Bool) → on (a % 256) ≡ b → Closes h (settled (calls on (suc a) k ++ (h ∷ []))) → Closes h (settled (calls on a (suc k) ++ (h ∷ [])))
+      case true e c = rw e (closes-more h Spoke _ refl (closes-more h (Took (a % 256)) _ (ne-eqb (a % 256) h (λ z. off-here h a k o (sym z))) c))
+      case false e c = rw e c
+
   module _ (h : ℕ) (small : h < 256) (live : on h ≡ true) (top : (y : ℕ) → h < y → y < 256 → on y ≡ false) (two : 2 ≤ length (roster on))
       (f : ℕ → ℕ) (fresh : (y : ℕ) → on y ≡ true → f y ≡ y) where
     abbrev pub settledRing : Ring
@@ -64,3 +75,6 @@ module _ (on : ℕ → Bool) where
         (rw last-snoc at (around (calls on (suc h) 255 ++ (h ∷ [])) h _
         (walk 255 (suc h) h h (omega arith) live (begin on h small live top two f fresh .away) (back on h small live top two f fresh))
         (lap on h small live top two f fresh .linked)))
+
+    pub settled-closes : Closes h (settled (roster on))
+    settled-closes = rw (roster-is on h small live top) (closes-around h 255 (suc h) (begin on h small live top two f fresh .away))

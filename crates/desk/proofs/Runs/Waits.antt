@@ -8,12 +8,14 @@ use native.Mathlib.Nat.{suc-inj}
 use native.Mathlib.Omega.{arith}
 use lib.ListN.{length}
 use Rattle.table.specs.Network.{rows, phase, holder, LOST, regsAt, onLineAt, topId, shape, SameNodes}
+use Rattle.line.specs.declared.step.Answer.the-variants.{Recovered}
 use Rattle.line.specs.Step.{step, highest}
+use Rattle.table.proofs.Shaped.Shapes.{shape-ids}
 use Rattle.table.proofs.Online.Nodes.{node-id, nodeOf-found}
 use Rattle.line.proofs.Steps.Holders.{highest-held}
 use Rattle.line.proofs.Steps.View.{Rams, alike-same, lost-step}
 use Rattle.desk.specs.Lap.{nodes, passed}
-use Rattle.desk.specs.Demand.{Call, Step, Read, Write, Reset, Look, table, steps, answersOf, Throughout}
+use Rattle.desk.specs.Demand.{Call, Step, Read, Write, Reset, Look, table, steps, answersOf, Throughout, From}
 use Rattle.table.proofs.Access.Calm.{Calm, calm-read, calm-write, calm-reset, alike-nodes, same-nodes-then}
 use Rattle.desk.proofs.ById.Ring as ring
 use Rattle.desk.proofs.ById.Ring.{Spoke, Ring, Runs}
@@ -100,26 +102,37 @@ module _ (start : List ℕ) (s : shape start ≡ true) (b : Rams start) (lost : 
     recovers : seen start (step now 0 .answer) ≡ Spoke
     recovers = let a = lost-step now (w .fits) (w .rams) (w .lost-still) some-top in rw (a .answer)
 
+    -- it gives the token to the row of the highest ID
+    recovered : step now 0 .answer ≡ Recovered q
+    recovered =
+        lost-step now (w .fits) (w .rams) (w .lost-still) some-top .answer
+        ∙ ap Recovered (shape-ids start s p q p-low q-low p-on q-on (p-id ∙ sym (back.held-id start s b lost two)))
+
   -- ---- a history from LOST on
   abbrev pub beginning : Ring
   beginning = record { taken = false; holder = highestId; nid = λ y. y }
 
   pub waits-went : (l : List Call) {t : Ring} {m : List ring.Telling} → Runs (on start s) beginning m t → steps l ≡ suc (length m) → (now : List ℕ) → Waits now
-      → Throughout start l now → Went start s now l (Spoke ∷ m) t
+      → Throughout start l now → Went start s now l (Spoke ∷ m) t × From (Recovered (highest start)) (answersOf l now)
   unfolding table steps answersOf Throughout
   waits-went [] r e now w h = absurd (omega arith)
   waits-went (Step ∷ l) r e now w h =
       let v = went start s l r (suc-inj e) (step now 0 .after) (begins now w) (h .1 .1) in
-      record { told = rw (recovers now w) (ap (Spoke ∷_) (v .told)); to-nodes = (untold now w, v .to-nodes); shows = v .shows }
+      (record { told = rw (recovers now w) (ap (Spoke ∷_) (v .told)); to-nodes = (untold now w, v .to-nodes); shows = v .shows }, recovered now w)
   waits-went (Read k g ∷ l) r e now w h =
-      let v = waits-went l r e _ (still-waits now _ w (calm-read now (w .fits) (w .rams) k g)) (h .1 .1) in record { told = v .told; to-nodes = v .to-nodes; shows = v .shows }
+      let v = waits-went l r e _ (still-waits now _ w (calm-read now (w .fits) (w .rams) k g)) (h .1 .1) in
+      (record { told = v .0 .told; to-nodes = v .0 .to-nodes; shows = v .0 .shows }, v .1)
   waits-went (Write k g x ∷ l) r e now w h =
       let c = calm-write now (w .fits) (w .rams) k g x (h .0) (nodes-between start now _ (w .nodes-same) (h .1 .0)) in
-      let v = waits-went l r e _ (still-waits now _ w c) (h .1 .1) in record { told = v .told; to-nodes = v .to-nodes; shows = v .shows }
+      let v = waits-went l r e _ (still-waits now _ w c) (h .1 .1) in
+      (record { told = v .0 .told; to-nodes = v .0 .to-nodes; shows = v .0 .shows }, v .1)
   waits-went (Reset k ∷ l) r e now w h =
       let c = calm-reset now (w .fits) (w .rams) k (nodes-between start now _ (w .nodes-same) (h .1 .0)) in
-      let v = waits-went l r e _ (still-waits now _ w c) (h .1 .1) in record { told = v .told; to-nodes = v .to-nodes; shows = v .shows }
-  waits-went (Look ∷ l) r e now w h = let v = waits-went l r e now w (h .1 .1) in record { told = v .told; to-nodes = v .to-nodes; shows = v .shows }
+      let v = waits-went l r e _ (still-waits now _ w c) (h .1 .1) in
+      (record { told = v .0 .told; to-nodes = v .0 .to-nodes; shows = v .0 .shows }, v .1)
+  waits-went (Look ∷ l) r e now w h =
+      let v = waits-went l r e now w (h .1 .1) in
+      (record { told = v .0 .told; to-nodes = v .0 .to-nodes; shows = v .0 .shows }, v .1)
 
   pub waits : Waits start
   waits = record { fits = s; rams = b; nodes-same = alike-nodes (alike-same start s b); lost-still = lost }

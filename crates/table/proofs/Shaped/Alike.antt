@@ -7,13 +7,13 @@ use mathlib.Core.Logic.{⊎-elim}
 use Prim.Native.Nat.{ℕ, _+_, _≤_, _<_}
 use native.Mathlib.Omega.{arith}
 use lib.Dec.{ltb}
-use lib.ListN.{length, getD, List·getD-eq-default}
+use lib.ListN.{length, List·getD-eq-default}
 use borrow.Author.Tests.{ltb-true, ltb-false}
 use Rattle.card.specs.Row.{rowBytes}
 use Rattle.registers.proofs.Words.Bools.{cases}
 use Rattle.card.proofs.Pages.Packets.{Ram}
 use Rattle.card.proofs.Rows.Rams.{Small, id-byte}
-use Rattle.table.specs.Network.{rowStart, rows, turned, rowAt, regsAt, onLineAt, shape}
+use Rattle.table.specs.Network.{Bytes, rowStart, rows, turned, rowAt, regsAt, onLineAt, shape}
 use Rattle.table.proofs.Rows.Networks.{length-rowAt, getD-rowAt, rowAt-turned, rows-turned}
 use Rattle.table.proofs.Online.Nodes.{online-same}
 use Rattle.table.proofs.Shaped.Shapes.{shape-within}
@@ -21,9 +21,6 @@ use Rattle.table.proofs.Shaped.Kept.{Became}
 use Rattle.table.proofs.Shaped.Became.{Moved, became-rows, shape-moved, moved-online}
 
 -- ---- the bytes of a network are bytes, and so are those of a row
-abbrev pub Bytes : List ℕ → Type 0
-Bytes net = (i : ℕ) → getD net i 0 < 256
-
 bytes-row : (net : List ℕ) → Bytes net → (k : ℕ) → rowStart k + rowBytes ≤ length net → Small (rowAt net k)
 bytes-row net b k l i =
     ⊎-elim (λ (t : ltb i rowBytes ≡ true). rw (getD-rowAt net k i (ltb-true i rowBytes t)) (b (rowStart k + i)))
