@@ -55,6 +55,7 @@ fn taker(order: &[u8], t: Taker) {
     print::text(b"\n");
 }
 
+// The n records of the order are n nodes on line: the first n entries of the list are their takers.
 fn takers(order: &[u8], l: Listed, n: usize)
     requires { ⌜ n ≤ rowLimit ⌝ }
 {
