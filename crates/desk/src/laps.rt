@@ -101,7 +101,7 @@ fn lap_number(net: &[u8], room: usize) -> u8
 }
 
 // A list of takers with nobody in it yet.
-fn nobody() -> [Taker; ROWS]
+pub fn nobody() -> [Taker; ROWS]
     ensures { λ r. ⌜ r ≡ nobody ⌝ }
 {
     [Taker {

@@ -1,12 +1,15 @@
 // The program `lap` (document 01, "Order forms and the lap"): reads an order on standard input, loads it, runs a lap
 // and prints the takers in the order in which they took the token; or the refusal's number.
+ghost use mathlib.Core.Path.{_≡_};
 ghost use lib.ListN.{length};
 ghost use Prim.Native.Nat.{_+_, _*_, _≤_};
 ghost use Rattle.table.specs.Network.{rowLimit, rowStart};
+ghost use Rattle.desk.specs.Lap.{lapped, netAfterLap, listAfterLap, nobody};
 ghost use Rattle.desk.specs.Order.{recordBytes};
 use card::row::ROW_BYTES;
+use desk::laps::Lapped;
 use desk::laps::Taker;
-use desk::laps::Walked;
+use desk::laps::nobody;
 use desk::orders::RECORD;
 use desk::orders::name_at;
 use desk::orders::records;
@@ -18,6 +21,23 @@ use table::network::ROWS;
 const ORDER: usize = RECORD * ROWS + 1;
 
 const NET: usize = HEADER + ROW_BYTES * ROWS;
+
+// What the lap call answers, and the list that it was lent.
+struct Listed {
+    lapped: Lapped,
+    list: [Taker; ROWS],
+}
+
+// The lap call, lent a list of sixty with nobody in it.
+fn lap_list(net: &mut [u8]) -> Listed
+    ensures { λ r. ⌜ (r .lapped ≡ lapped (now (net .entry)) rowLimit)
+        × (now (net .exit) ≡ netAfterLap (now (net .entry)) rowLimit)
+        × (r .list ≡ listAfterLap (now (net .entry)) nobody) ⌝ }
+{
+    let mut list = nobody();
+    let lapped = desk::laps::lap(net, &mut list);
+    Listed { lapped, list }
+}
 
 fn refuse(number: u8) {
     print::text(b"REFUSED");
@@ -35,16 +55,17 @@ fn taker(order: &[u8], t: Taker) {
     print::text(b"\n");
 }
 
-fn takers(order: &[u8], w: Walked)
-    requires { ⌜ w .n ≤ rowLimit ⌝ }
+// The n records of the order are n nodes on line: the first n entries of the list are their takers.
+fn takers(order: &[u8], l: Listed, n: usize)
+    requires { ⌜ n ≤ rowLimit ⌝ }
 {
     print::text(b"LAP");
-    print::number(w.n);
+    print::number(n);
     print::text(b" NODES");
-    print::number(w.lapped.total as usize);
+    print::number(l.lapped.total as usize);
     print::text(b" INVITATIONS\n");
-    let list = w.list;
-    for i in 0..w.n {
+    let list = l.list;
+    for i in 0..n {
         taker(order, list[i]);
     }
 }
@@ -54,18 +75,19 @@ fn answer(order: &[u8], net: &mut [u8])
     requires { ⌜ length (now order) ≤ recordBytes * rowLimit + 1 ⌝ }
     requires { ⌜ rowStart rowLimit ≤ length (now net) ⌝ }
 {
-    let size = HEADER + ROW_BYTES * records(order);
+    let n = records(order);
+    let size = HEADER + ROW_BYTES * n;
     let number = desk::loading::load(order, &mut net[0..size]);
     if number != 0 {
         refuse(number);
         return;
     }
-    let w = desk::laps::walk(&mut net[0..size], ROWS);
-    if w.lapped.number != 0 {
-        refuse(w.lapped.number);
+    let l = lap_list(&mut net[0..size]);
+    if l.lapped.number != 0 {
+        refuse(l.lapped.number);
         return;
     }
-    takers(order, w);
+    takers(order, l, n);
 }
 
 fn main() {

@@ -15,9 +15,15 @@ add-size c = let a = c .before .before .before in omega (arith, c .records .ensu
 part-load-end : tie.Need-part-load-end
 part-load-end c = let a = c .before .before .before in omega (arith, c .records .ensures, records-within (a .args .order .now), a .pre)
 
-part-walk-end : tie.Need-part-walk-end
-part-walk-end c =
+part-lap-list-end : tie.Need-part-lap-list-end
+part-lap-list-end c =
     let r = c .before .before .before .before .before in
+    let a = r .before .before .before in
+    omega (arith, r .records .ensures, records-within (a .args .order .now), a .pre)
+
+takers-requires : tie.Need-takers-requires
+takers-requires c κs =
+    let r = c .before .before .before .before .before .before .before .before .before .before .before in
     let a = r .before .before .before in
     omega (arith, r .records .ensures, records-within (a .args .order .now), a .pre)
 
@@ -25,5 +31,5 @@ pub answer-spec : {M : Type 1} → statement M
 answer-spec =
     tie.close
     (tie.spec (λ c κs. search needs) mul-size add-size (λ c. search needs) (λ c. search needs) part-load-end
-    (λ c κs. search needs) (λ c κs. search needs) (λ c. search needs) (λ c. search needs) (λ c. search needs) (λ c. search needs) part-walk-end
-    (λ c κs. search needs) (λ c κs. search needs) (λ c. search needs) (λ c. search needs) (λ c κs. search needs) (λ c. search needs) (λ c. search needs))
+    (λ c κs. search needs) (λ c κs. search needs) (λ c. search needs) (λ c. search needs) (λ c. search needs) (λ c. search needs) part-lap-list-end
+    (λ c κs. search needs) (λ c κs. search needs) (λ c. search needs) (λ c. search needs) takers-requires (λ c. search needs) (λ c. search needs))

@@ -6,10 +6,10 @@ use Rattle.lap.proofs.takers.Statement.{statement}
 use Rattle.lap.proofs.takers.Tie as tie
 
 abbrev Inv-loop : tie.InvT-loop
-Inv-loop order list i₀ i-end i = (i ≤ i-end) × (i-end ≤ 60)
+Inv-loop order n list i₀ i = (i ≤ n) × (n ≤ 60)
 
 abbrev μ-loop : tie.MeasureT-loop
-μ-loop order list i₀ i-end i = i-end - i
+μ-loop order n list i₀ i = n - i
 
 pub takers-spec : {M : Type 1} → statement M
 takers-spec =

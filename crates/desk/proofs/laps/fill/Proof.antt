@@ -53,7 +53,7 @@ use denote.Triple.Walked.{says, needs, Stays, stay-slice, stay-dropped, walkOf, 
 use denote.Exit.{yes}
 use Rattle.desk.specs.declared.laps.Taker.{Taker}
 use Rattle.desk.proofs.Lapping.WalkSteps.{var, part, sets, tests, ends}
-use Rattle.desk.proofs.Lapping.TakerRows.{R, array, valsOf, machOf, typed, list-typed, apart, again as room-again, taken}
+use Rattle.desk.proofs.Lapping.TakerRows.{R, array, valsOf, machOf, typed, list-typed, list-tells, apart, again as room-again, taken}
 use Rattle.desk.proofs.laps.Taker as Row
 use Rattle.desk.proofs.laps.Taker.Laws as T′
 use Rattle.desk.proofs.laps.fill.Key.{name as #fill}
@@ -267,7 +267,7 @@ module _ {M : Type 1} (𝓤 : URA M) (H : Heap 𝓤) (A : Atoms 𝓤) (W : Given
   walks : Walks 𝓤 H A f.ended stayed (WpFn 𝓤 H (𝓣 .C) (𝓣 .Λ) code.function) (f.clauses 𝓤 H A at-mem run)
   walks = walked 𝓤 H A f.ended stayed (f.clauses 𝓤 H A at-mem run) (WpFn 𝓤 H (𝓣 .C) (𝓣 .Λ) code.function)
       (λ κs. (slice-vals, (array-vals valsOf, (uint-vals w64, tt))))
-      (λ κs. (mut-slice-tells (named 0) (κs .0) R, (array-tells R valsOf (LL.tells Row.the-type T′.the-laws) 60, (uint-tells w64, tt))))
+      (λ κs. (mut-slice-tells (named 0) (κs .0) R, (list-tells, (uint-tells w64, tt))))
       (λ κs qs bounds a g are. needs 𝓤 ((a .1 .1 .0 ≤ 60) × (a .1 .1 .0 ≤ length (a .0 .now))) _
       (λ h. walk 𝓤 H A W at-mem run (κs .0) (qs .0) (a .0 .ptr .0) (a .0 .ptr .1) (a .0 .name) (a .0 .now) (a .1 .0) (a .1 .1 .0) 𝓣
       (are .0 .0 .1) (are .1 .0) (are .1 .1 .0 .1) (h .0) (h .1)))
