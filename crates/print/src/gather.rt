@@ -24,7 +24,7 @@ pub fn text(out: &mut [u8; ROOM], n: usize, s: &[u8]) -> usize {
     to
 }
 
-pub fn decimal(out: &mut [u8; ROOM], n: usize, number: usize) -> usize {
+fn decimal(out: &mut [u8; ROOM], n: usize, number: usize) -> usize {
     let mut digits = [0u8; 20];
     let k = io::decimal(number as u64, &mut digits);
     text(out, n, &digits[..k])
@@ -84,7 +84,7 @@ pub fn end(out: &mut [u8; ROOM], n: usize) {
 }
 
 // A number at the right of a column of four.
-pub(crate) fn column(out: &mut [u8; ROOM], n: usize, number: usize) -> usize {
+fn column(out: &mut [u8; ROOM], n: usize, number: usize) -> usize {
     let mut to = n;
     if number < 1000 {
         to = put(out, to, b' ');

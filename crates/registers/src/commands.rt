@@ -4,7 +4,7 @@ ghost use Rattle.registers.specs.Commands.{commandOf};
 ghost use Rattle.registers.specs.Refusals.{illegal};
 
 // What a byte written to register 1 asks of the card. Pages are 0 to 3.
-pub enum Command {
+pub(crate) enum Command {
     Illegal,
     DisableTransmitter,
     DisableReceiver,
@@ -43,7 +43,7 @@ const LEGAL: [Legal; 20] = [
 ];
 
 // The command of a byte, found in the table.
-pub fn decode(byte: u8) -> Command
+pub(crate) fn decode(byte: u8) -> Command
     ensures { λ r. ⌜ r ≡ commandOf byte ⌝ }
 {
     let mut i = 0;
@@ -59,7 +59,7 @@ pub fn decode(byte: u8) -> Command
 }
 
 impl Command {
-    pub fn illegal(self) -> bool
+    pub(crate) fn illegal(self) -> bool
         ensures { λ r. ⌜ r ≡ illegal self ⌝ }
     {
         match self {
