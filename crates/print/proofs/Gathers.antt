@@ -9,7 +9,7 @@ use native.Mathlib.Omega.{arith}
 use lib.ListN.{length, getD, drop, set, drop-of-length-le}
 use lib.Seq.{drop-cons}
 use borrow.Author.Tests.{lt-ltb, le-ltb}
-use Rattle.print.specs.Gather.{ROOM, SPACE, Gathered, got, put, gather, digit, hex, spaced, bytesOf, pad}
+use Rattle.print.specs.Gather.{ROOM, NEWLINE, SPACE, Gathered, got, put, gather, lineOf, digit, hex, spaced, bytesOf, pad}
 
 pub put-behind : (out : List ℕ) (n b : ℕ) → n < ROOM → got (set out n b) (n + 1) ≡ put (got out n) b
 unfolding put
@@ -39,6 +39,10 @@ module _ (g h k : Gathered) where
 
   pub then-both : (s t : List ℕ) → h ≡ gather g s → k ≡ gather h t → k ≡ gather g (s ++ t)
   then-both s t p q = q ∙ ap (λ (x : Gathered). gather x t) p ∙ sym (gather-both g s t)
+
+pub line-is : (out : List ℕ) (g : Gathered) (s e : List ℕ) → g ≡ gather (got out 0) s → e ≡ put g NEWLINE .held → e ≡ lineOf out s
+unfolding lineOf
+line-is out g s e p q = q ∙ ap (λ (x : Gathered). put x NEWLINE .held) p
 
 pub one-byte : (g h k : Gathered) (b : ℕ) → h ≡ put g (digit (b / 16)) → k ≡ put h (digit (b % 16)) → k ≡ gather g (hex (b ∷ []))
 unfolding gather hex

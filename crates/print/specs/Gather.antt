@@ -32,6 +32,10 @@ unfoldable pub gather : Gathered → List ℕ → Gathered
 gather g [] = g
 gather g (b ∷ s) = gather (put g b) s
 
+-- the buffer after a line of its own
+unfoldable pub lineOf : List ℕ → List ℕ → List ℕ
+lineOf out s = put (gather (got out 0) s) NEWLINE .held
+
 -- a number in decimal, of at most k digits
 unfoldable pub digits : ℕ → ℕ → List ℕ
 digits zero n = []
