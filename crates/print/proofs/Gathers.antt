@@ -19,15 +19,11 @@ pub put-first : (out : List ℕ) (n b : ℕ) → ROOM ≤ n → got (set out 0 b
 unfolding put
 put-first out n b h = rw (le-ltb n ROOM h)
 
-pub gather-none : (g : Gathered) → gather g [] ≡ g
-unfolding gather
-gather-none g = refl
-
-pub gather-more : (g : Gathered) (b : ℕ) (s : List ℕ) → gather g (b ∷ s) ≡ gather (put g b) s
+gather-more : (g : Gathered) (b : ℕ) (s : List ℕ) → gather g (b ∷ s) ≡ gather (put g b) s
 unfolding gather
 gather-more g b s = refl
 
-pub gather-both : (g : Gathered) (s t : List ℕ) → gather g (s ++ t) ≡ gather (gather g s) t
+gather-both : (g : Gathered) (s t : List ℕ) → gather g (s ++ t) ≡ gather (gather g s) t
 unfolding gather
 gather-both g [] t = refl
 gather-both g (b ∷ s) t = gather-both (put g b) s t

@@ -4,7 +4,7 @@ ghost use Rattle.registers.specs.Commands.{commandOf};
 ghost use Rattle.registers.specs.Refusals.{illegal};
 
 // What a byte written to register 1 asks of the card. Pages are 0 to 3.
-pub(crate) enum Command {
+pub enum Command {
     Illegal,
     DisableTransmitter,
     DisableReceiver,

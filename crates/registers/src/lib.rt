@@ -1,7 +1,7 @@
 // The registers of one COM20010 card by value (document 01): their bits, the twenty commands, what an access or the line
 // does to them, and what an access is refused with.
 pub mod access;
-mod commands;
+pub mod commands;
 pub mod events;
 pub mod numbers;
 pub mod refusals;
