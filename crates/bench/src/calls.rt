@@ -26,14 +26,14 @@ use table::network::shape;
 use table::numbers::SHAPE;
 
 // SHAPE alone: 0 where the network is well formed.
-pub fn shape_number(net: &[u8]) -> u8
+pub(crate) fn shape_number(net: &[u8]) -> u8
     ensures { λ r. ⌜ r ≡ shapeNumber (now (net .entry)) ⌝ }
 {
     refuse(DONE, SHAPE, !shape(net))
 }
 
 // Whether the n bytes at `at` all stand inside the lent ones.
-pub fn inside(net: &[u8], at: usize, n: usize) -> bool
+pub(crate) fn inside(net: &[u8], at: usize, n: usize) -> bool
     ensures { λ r. ⌜ r ≡ inside (now (net .entry)) at n ⌝ }
 {
     if net.len() < at {
@@ -43,7 +43,7 @@ pub fn inside(net: &[u8], at: usize, n: usize) -> bool
 }
 
 // Bytes are stored, where they all stand inside the lent ones; else nothing is.
-pub fn poke(net: &mut [u8], at: usize, digits: &[u8]) -> bool
+pub(crate) fn poke(net: &mut [u8], at: usize, digits: &[u8]) -> bool
     ensures done { λ r. ⌜ r ≡ inside (now (net .entry)) at (length (unhex (now (digits .entry)))) ⌝ }
     ensures bytes { λ _. ⌜ now (net .exit) ≡ poked (now (net .entry)) at (unhex (now (digits .entry))) ⌝ }
 {
@@ -56,7 +56,7 @@ pub fn poke(net: &mut [u8], at: usize, digits: &[u8]) -> bool
 }
 
 // The network is made anew from the order that the digits spell.
-pub fn load(net: &mut [u8], digits: &[u8]) -> u8
+pub(crate) fn load(net: &mut [u8], digits: &[u8]) -> u8
     requires { ⌜ length (now digits) ≤ LINE ⌝ }
     ensures number { λ r. ⌜ r ≡ loadNumber (unhex (now (digits .entry))) (now (net .entry)) ⌝ }
     ensures bytes { λ _. ⌜ now (net .exit) ≡ netAfterLoad (unhex (now (digits .entry))) (now (net .entry)) ⌝ }
@@ -80,7 +80,7 @@ fn wide_value(net: &[u8], row: usize, register: usize) -> u8
 }
 
 // A register of a row is written.
-pub fn write(net: &mut [u8], row: usize, register: usize, value: usize) -> u8
+pub(crate) fn write(net: &mut [u8], row: usize, register: usize, value: usize) -> u8
     ensures number { λ r. ⌜ r ≡ valueNumber (now (net .entry)) row register value ⌝ }
     ensures bytes { λ _. ⌜ now (net .exit) ≡ netAfterValue (now (net .entry)) row register value ⌝ }
 {
@@ -118,7 +118,7 @@ fn lapped(out: &mut [u8; ROOM], walked: Walked)
     end(out, n);
 }
 
-pub fn lap(out: &mut [u8; ROOM], net: &mut [u8], room: usize)
+pub(crate) fn lap(out: &mut [u8; ROOM], net: &mut [u8], room: usize)
     ensures { λ _. ⌜ now (net .exit) ≡ netAfterLap (now (net .entry)) room ⌝ }
 {
     let walked = desk::laps::walk(net, room);

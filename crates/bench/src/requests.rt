@@ -16,52 +16,52 @@ const LIST: usize = 70;
 
 // The numbers of the calls, but for the last of each ten, `help`, `load` and `timer`, which are what is left there. The
 // tens tell what a call has to do with: it looks at the network, or it changes bytes, a row, or the line.
-pub const SIZE: usize = 0;
+pub(crate) const SIZE: usize = 0;
 
-pub const PEEK: usize = 1;
+pub(crate) const PEEK: usize = 1;
 
-pub const SUM: usize = 2;
+pub(crate) const SUM: usize = 2;
 
-pub const CHECK: usize = 3;
+pub(crate) const CHECK: usize = 3;
 
-pub const INTERRUPT: usize = 4;
+pub(crate) const INTERRUPT: usize = 4;
 
-pub const DATA: usize = 5;
+pub(crate) const DATA: usize = 5;
 
-pub const SHOW: usize = 6;
+pub(crate) const SHOW: usize = 6;
 
-pub const POKE: usize = 10;
+pub(crate) const POKE: usize = 10;
 
-pub const FRESH: usize = 11;
+pub(crate) const FRESH: usize = 11;
 
-pub const READ: usize = 20;
+pub(crate) const READ: usize = 20;
 
-pub const WRITE: usize = 21;
+pub(crate) const WRITE: usize = 21;
 
-pub const RESET: usize = 22;
+pub(crate) const RESET: usize = 22;
 
-pub const STEP: usize = 30;
+pub(crate) const STEP: usize = 30;
 
-pub const LAP: usize = 31;
+const LAP: usize = 31;
 
 // What a word asks and takes: the number of its call, the place in its line where hex digits may stand, with numbers
 // before it, and the fewest and the most words of the line.
-pub struct Form {
-    pub call: usize,
-    pub digits: usize,
-    pub fewest: usize,
-    pub most: usize,
+struct Form {
+    call: usize,
+    digits: usize,
+    fewest: usize,
+    most: usize,
 }
 
 // A call's number, and the numbers after its word.
-pub struct Call {
-    pub call: usize,
-    pub a: usize,
-    pub b: usize,
-    pub c: usize,
+pub(crate) struct Call {
+    pub(crate) call: usize,
+    pub(crate) a: usize,
+    pub(crate) b: usize,
+    pub(crate) c: usize,
 }
 
-pub enum Request {
+pub(crate) enum Request {
     Error(Mistake),
     Asks(Call),
 }
@@ -146,7 +146,7 @@ fn asked_of(line: &[u8], form: Form) -> Request
 }
 
 // What a line asks, of which `long` says that it did not fit.
-pub fn asked(long: bool, line: &[u8]) -> Request
+pub(crate) fn asked(long: bool, line: &[u8]) -> Request
     ensures { λ r. ⌜ r ≡ asked long (now (line .entry)) ⌝ }
 {
     if long {

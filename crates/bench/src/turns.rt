@@ -32,7 +32,7 @@ use prompt::answers::tell;
 use words::words::word;
 
 // The bytes that may be lent.
-pub const NET: usize = 66400;
+pub(crate) const NET: usize = 66400;
 
 fn peek(out: &mut [u8; ROOM], net: &[u8], at: usize, count: usize) {
     if !calls::inside(net, at, count) {
@@ -149,7 +149,13 @@ fn size_after(q: Call, size: usize) -> usize
 
 // A line, of which `long` says that it did not fit, is answered, with the first `size` bytes lent. It hands back the
 // current length.
-pub fn turn(net: &mut [u8], size: usize, line: &[u8], long: bool, out: &mut [u8; ROOM]) -> usize
+pub(crate) fn turn(
+    net: &mut [u8],
+    size: usize,
+    line: &[u8],
+    long: bool,
+    out: &mut [u8; ROOM],
+) -> usize
     requires { ⌜ (size ≤ NET) × (length (now net) ≡ NET) × (length (now line) ≤ LINE) ⌝ }
     ensures size { λ r. ⌜ (r ≡ sizeAfterLine long (now (line .entry)) size) × (r ≤ NET) ⌝ }
     ensures bytes { λ _. ⌜ now (net .exit) ≡ netAfterLine long (now (line .entry)) size (now (net .entry)) ⌝ }

@@ -26,7 +26,7 @@ pub struct Packet {
 }
 
 // The shape by the byte at offset 2, the byte after it, and whether the page may be long.
-pub fn shape_of(count: u8, next: u8, long: bool) -> Shape
+fn shape_of(count: u8, next: u8, long: bool) -> Shape
     ensures { λ r. ⌜ r ≡ shapeOf count next long ⌝ }
 {
     if 3 <= count {
@@ -50,7 +50,7 @@ impl Shape {
     }
 
     // N, the number of data bytes.
-    pub fn data_bytes(self) -> usize
+    fn data_bytes(self) -> usize
         ensures { λ r. ⌜ r ≡ dataBytes self ⌝ }
     {
         match self {
@@ -61,7 +61,7 @@ impl Shape {
     }
 
     // The page offset of the first data byte.
-    pub fn data_at(self) -> usize
+    fn data_at(self) -> usize
         ensures { λ r. ⌜ r ≡ dataAt self ⌝ }
     {
         match self {
@@ -72,7 +72,7 @@ impl Shape {
     }
 
     // SID, DID and the COUNT byte or bytes.
-    pub fn head_bytes(self) -> usize
+    fn head_bytes(self) -> usize
         ensures { λ r. ⌜ r ≡ headBytes self ⌝ }
     {
         match self {
@@ -82,7 +82,7 @@ impl Shape {
         }
     }
 
-    pub fn page_bytes(self) -> usize
+    fn page_bytes(self) -> usize
         ensures { λ r. ⌜ r ≡ pageBytes self ⌝ }
     {
         match self {

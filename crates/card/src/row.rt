@@ -6,7 +6,7 @@ ghost use Rattle.card.specs.Row.{rowBytes, regsOf, putRegs, zeros, wellF
 ghost use Rattle.card.specs.Access.{valueRead, rowAfterRead, ramWritten, rowAfterWrite, rowAfterReset, freshRow};
 use registers::regs::Regs;
 
-pub const REGISTER_BYTES: usize = 64;
+pub(crate) const REGISTER_BYTES: usize = 64;
 
 pub const ROW_BYTES: usize = 1088;
 

@@ -14,9 +14,9 @@ const MARK: [u8; 2] = *b"\x4f\x52";
 const SPACE: u8 = 0x20;
 
 // Flag bits of a record.
-pub const RECEIVE: u8 = 1;
+pub(crate) const RECEIVE: u8 = 1;
 
-pub const LONG: u8 = 2;
+pub(crate) const LONG: u8 = 2;
 
 // The number of whole records.
 pub fn records(order: &[u8]) -> usize
@@ -36,14 +36,14 @@ fn record_at(order: &[u8], k: usize) -> &[u8]
     &order[a..a + RECORD]
 }
 
-pub fn id_at(order: &[u8], k: usize) -> u8
+pub(crate) fn id_at(order: &[u8], k: usize) -> u8
     requires { ⌜ recordBytes * k + recordBytes ≤ length (now order) ⌝ }
     ensures { λ r. ⌜ r ≡ idAt (now (order .entry)) k ⌝ }
 {
     record_at(order, k)[2]
 }
 
-pub fn flags_at(order: &[u8], k: usize) -> u8
+pub(crate) fn flags_at(order: &[u8], k: usize) -> u8
     requires { ⌜ recordBytes * k + recordBytes ≤ length (now order) ⌝ }
     ensures { λ r. ⌜ r ≡ flagsOf (recordAt (now (order .entry)) k) ⌝ }
 {
@@ -109,7 +109,7 @@ fn ids_differ(order: &[u8], n: usize) -> bool
 }
 
 // ORDER does not refuse the order. Any bytes of any length may be asked about.
-pub fn order_fits(order: &[u8]) -> bool
+pub(crate) fn order_fits(order: &[u8]) -> bool
     ensures { λ r. ⌜ r ≡ orderFits (now (order .entry)) ⌝ }
 {
     let n = records(order);

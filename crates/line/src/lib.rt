@@ -1,5 +1,5 @@
 // The line between the cards (document 01, "One line step"), over the contracts of the card and of the table.
-pub mod numbers;
-pub mod passes;
+mod numbers;
+mod passes;
 pub mod step;
 pub mod traffic;

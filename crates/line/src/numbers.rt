@@ -1,2 +1,2 @@
 // Document 01, "Numbers a caller may get": the number that is the step's own.
-pub const HOLDER: u8 = 11;
+pub(crate) const HOLDER: u8 = 11;

@@ -17,7 +17,7 @@ use table::network::HEADER;
 use table::network::regs_at;
 
 // What reaches every row at once.
-pub enum Event {
+pub(crate) enum Event {
     Recovery,
     // A message of the row named, which the others hear; an invitation, or not.
     Message(usize, bool),

@@ -1,4 +1,8 @@
 // The answer lines.
+ghost use mathlib.Core.Path.{_≡_};
+ghost use mathlib.Core.List.{_++_};
+ghost use Rattle.print.specs.Gather.{lineOf, spaced};
+ghost use Rattle.prompt.specs.Answers.{DONE};
 use line::step::Answer;
 use line::traffic::Outcome;
 use print::gather::ROOM;
@@ -172,7 +176,9 @@ pub fn error(mistake: Mistake) -> Told {
 }
 
 // DONE and bytes.
-pub fn hex(out: &mut [u8; ROOM], s: &[u8]) {
+pub fn hex(out: &mut [u8; ROOM], s: &[u8])
+    ensures { λ _. ⌜ now (out .exit) ≡ lineOf (now (out .entry)) (DONE ++ spaced (now (s .entry))) ⌝ }
+{
     let n = text(out, 0, b"DONE");
     let n = spaced(out, n, s);
     end(out, n);

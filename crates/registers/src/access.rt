@@ -27,7 +27,7 @@ impl Regs {
     }
 
     // The pointer after an access of register 4.
-    pub fn stepped(self) -> Regs
+    fn stepped(self) -> Regs
         ensures { λ r. ⌜ r ≡ stepped self ⌝ }
     {
         if self.mode & AUTO_INC == 0 {
@@ -89,7 +89,7 @@ impl Regs {
     }
 
     // The configuration is written; RESET = 1 is a software reset.
-    pub fn configured(self, value: u8) -> Regs
+    fn configured(self, value: u8) -> Regs
         ensures { λ r. ⌜ r ≡ configured self value ⌝ }
     {
         let mut g = self;
@@ -107,7 +107,7 @@ impl Regs {
     }
 
     // A command's effect.
-    pub fn commanded(self, command: Command) -> Regs
+    fn commanded(self, command: Command) -> Regs
         ensures { λ r. ⌜ r ≡ commanded self command ⌝ }
     {
         let mut g = self;
@@ -143,7 +143,7 @@ impl Regs {
     }
 
     // The register is the node ID.
-    pub fn writes_id(self, register: usize) -> bool
+    pub(crate) fn writes_id(self, register: usize) -> bool
         ensures { λ r. ⌜ r ≡ writesId self register ⌝ }
     {
         (register == 7) & (self.sub_address() == 1)

@@ -11,13 +11,13 @@ pub const VALUE: u8 = 4;
 
 pub const NOTREADY: u8 = 5;
 
-pub const DIRECTION: u8 = 6;
+pub(crate) const DIRECTION: u8 = 6;
 
 pub const BUSY: u8 = 7;
 
-pub const ONLINE: u8 = 8;
+pub(crate) const ONLINE: u8 = 8;
 
-pub const PAGE: u8 = 9;
+pub(crate) const PAGE: u8 = 9;
 
 pub fn choose(b: bool, x: u8, y: u8) -> u8
     ensures { λ r. ⌜ r ≡ pick b x y ⌝ }

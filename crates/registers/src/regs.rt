@@ -22,15 +22,15 @@ pub(crate) const RCVACT: u8 = 1 << 5;
 
 pub(crate) const TOKEN: u8 = 1 << 4;
 
-pub(crate) const EXCNAK: u8 = 1 << 3;
+const EXCNAK: u8 = 1 << 3;
 
 pub(crate) const TENTID: u8 = 1 << 2;
 
 pub(crate) const RESET: u8 = 1 << 7;
 
-pub(crate) const CCHEN: u8 = 1 << 6;
+const CCHEN: u8 = 1 << 6;
 
-pub(crate) const TXEN: u8 = 1 << 5;
+const TXEN: u8 = 1 << 5;
 
 pub(crate) const RDDATA: u8 = 1 << 7;
 
@@ -40,12 +40,12 @@ pub(crate) const CANCEL: u8 = 1 << 7;
 
 pub const BROADCASTS: u8 = 1 << 6;
 
-pub(crate) const LOW2: u8 = 3;
+const LOW2: u8 = 3;
 
 // The bits that have a name; the others are zero.
-pub(crate) const STATUS: u8 = RI | POR | RECON | TMA | TA;
+const STATUS: u8 = RI | POR | RECON | TMA | TA;
 
-pub(crate) const DIAGNOSTIC: u8 = MYRECON | DUPID | RCVACT | TOKEN | TENTID;
+const DIAGNOSTIC: u8 = MYRECON | DUPID | RCVACT | TOKEN | TENTID;
 
 pub(crate) const MASK: u8 = RI | EXCNAK | RECON | TA;
 
@@ -82,7 +82,7 @@ pub struct Regs {
 
 impl Regs {
     // The ID is not 0 and RESET is clear.
-    pub fn awake(self) -> bool
+    pub(crate) fn awake(self) -> bool
         ensures { λ r. ⌜ r ≡ awake self ⌝ }
     {
         (self.id != 0) & (self.configuration & RESET == 0)

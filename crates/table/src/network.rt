@@ -19,7 +19,7 @@ pub const PASS: u8 = 1;
 pub const TAKEN: u8 = 2;
 
 // The fixed bytes that a network begins with.
-pub const MARK: [u8; 2] = *b"\x41\x4e";
+pub(crate) const MARK: [u8; 2] = *b"\x41\x4e";
 
 pub fn wide(x: u8) -> usize
     ensures { λ r. ⌜ (r ≡ x) × (r < 256) ⌝ }

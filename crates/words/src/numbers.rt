@@ -20,7 +20,7 @@ fn digit(b: u8) -> bool
 }
 
 // Decimal digits, one or more, of a value that is at most MOST.
-pub fn decimal(word: &[u8]) -> Number
+fn decimal(word: &[u8]) -> Number
     ensures { λ r. ⌜ r ≡ numberOf (now (word .entry)) ⌝ }
 {
     let none = Number {

@@ -85,7 +85,7 @@ pub fn spaced(line: &[u8]) -> bool
 }
 
 // The two have the same bytes.
-pub fn same(word: &[u8], name: &[u8]) -> bool
+fn same(word: &[u8], name: &[u8]) -> bool
     ensures { λ r. ⌜ r ≡ same (now (word .entry)) (now (name .entry)) ⌝ }
 {
     if word.len() != name.len() {
