@@ -10,7 +10,8 @@ use lib.Dec.{lit<}
 use lib.ListN.{length, getD, set, drop, length-set, length-drop}
 use lib.Seq.{sets, length-sets, getD-set-other, getD-set-same, getD-take, getD-drop, ext-getD, length-take-le}
 use Rattle.registers.specs.declared.regs.Regs.{Regs}
-use Rattle.card.specs.Row.{registerBytes, regsOf, bytesOf, putRegs, spare, zeros, marked, wellFormed}
+use Rattle.card.specs.Row.{registerBytes, regsOf, putRegs, spare, zeros, marked, wellFormed}
+use Rattle.registers.specs.Layout.{bytesOf}
 use Rattle.registers.specs.Fit.{fit}
 use Rattle.registers.proofs.Words.Bools.{and-left, and-right}
 
