@@ -8,4 +8,3 @@ pub mod Registers
 pub mod Layout
 pub mod Refusals
 pub mod Events
-pub mod SameBut

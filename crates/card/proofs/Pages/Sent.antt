@@ -8,7 +8,7 @@ use native.Mathlib.Omega.{arith}
 use borrow.Author.Tests.{le-ltb, leb-true}
 use lib.Dec.{eqb, leb, ltb}
 use lib.ListN.{length, getD, take, drop, length-drop, List·getD-append}
-use lib.Seq.{ext-getD, getD-take, getD-drop, getD-set-same}
+use lib.Seq.{ext-getD, getD-take, getD-drop, getD-set-same, getD-set-other}
 use Rattle.registers.specs.declared.regs.Regs.{Regs}
 use Rattle.card.specs.declared.packets.Shape.{Shape}
 use Rattle.card.specs.declared.packets.Shape.the-variants.{Malformed, Short, Long}
@@ -23,7 +23,7 @@ use Rattle.card.specs.Moves.{Holds}
 use Rattle.card.proofs.Words.Laid.{length-part}
 use Rattle.card.proofs.Pages.Sizes.{data-end, head-least, page-most, page-fits}
 use Rattle.card.proofs.Pages.Stored.{stored-head, reads-back, length-stamped}
-use Rattle.card.proofs.Rows.Bystanders.{stamped-other, stamped-shape}
+use Rattle.card.proofs.Rows.WellFormed.{regs-stamped}
 
 -- ---- a page of two rows with the same RAM and the same long packets
 module _ (r s : List ℕ) (size : length s ≡ length r) (long : regsOf s .long ≡ regsOf r .long) (ram : (i : ℕ) → 16 ≤ i → getD s i 0 ≡ getD r i 0) (p : ℕ) where
@@ -56,6 +56,17 @@ holds-same r p s t q size long ram h = record {
   sid = ram (pageAt q) (omega arith) ∙ h .sid;
   did = did-same s t size long ram q ∙ h .did;
 }
+
+-- ---- a page that is stamped
+pub stamped-other : (r : List ℕ) (p i : ℕ) → (i ≡ pageAt p → ⊥) → getD (stamped r p) i 0 ≡ getD r i 0
+unfolding stamped
+stamped-other r p i n = getD-set-other r (pageAt p) i (regsOf r .id) 0 (λ e. n e)
+
+-- its packet has the shape that the page had: COUNT stands past the byte that is written
+pub stamped-shape : (r : List ℕ) → length r ≡ rowBytes → (p : ℕ) → packetAt (stamped r p) p .shape ≡ pageShape r p
+unfolding packetAt pageShape
+stamped-shape r l p =
+    rw (stamped-other r p (pageAt p + 2) (λ e. omega arith), stamped-other r p (pageAt p + 3) (λ e. omega arith), regs-stamped r l p)
 
 -- ---- a packet that is read out of a page
 module _ (r : List ℕ) (p : ℕ) (l : length r ≡ rowBytes) (h : p < 4) where
