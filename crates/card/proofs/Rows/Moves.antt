@@ -24,8 +24,8 @@ use Rattle.card.proofs.Rows.Bytes.{regs-same, length-put, put-mark, put
 use Rattle.card.proofs.Pages.Stored.{length-stored, stored-outside, stored-gap}
 use Rattle.card.proofs.Rows.Accesses.{length-ram}
 
-pub only-same : (moves : ℕ → Bool) (r : List ℕ) → OnlyAt moves r r
-only-same moves r = record { size = refl; same = λ i e. refl }
+pub only-stays : (moves : ℕ → Bool) (r : List ℕ) → OnlyAt moves r r
+only-stays moves r = record { size = refl; same = λ i e. refl }
 
 pub only-then : {moves : ℕ → Bool} (r s t : List ℕ) → OnlyAt moves r s → OnlyAt moves s t → OnlyAt moves r t
 only-then r s t a b = record { size = b .size ∙ a .size; same = λ i e. b .same i e ∙ a .same i e }
@@ -103,7 +103,7 @@ module _ (r : List ℕ) (l : length r ≡ rowBytes) where
       let e : regsOf m ≡ regsOf r = pick-of (λ (x : List ℕ). regsOf x ≡ regsOf r) (eqb k 4) (λ _. regs-same r _ (λ j b. getD-set-other r (pointed r) j v 0 (λ x. omega arith))) (λ _. refl) in
       only-then r m _
       (pick-of (λ (x : List ℕ). OnlyAt (writeMoves r k) r x) (eqb k 4)
-      (λ t. only-wider r _ (λ i f. rw t at (or-right (among (writeChanges (regsOf r) k) i) _ f)) (only-set r (pointed r) v)) (λ _. only-same _ r))
+      (λ t. only-wider r _ (λ i f. rw t at (or-right (among (writeChanges (regsOf r) k) i) _ f)) (only-set r (pointed r) v)) (λ _. only-stays _ r))
       (only-wider m _ (λ i f. or-left _ (eqb k 4 && eqb i (pointed r)) f)
       (only-put (writeChanges (regsOf r) k) m _ (omega (arith, length-ram r k (pointed r) v)) (rw e (keeps-write (regsOf r) k v))))
 
