@@ -43,7 +43,7 @@ module _ (r s : List ℕ) (size : length s ≡ length r) (long : regsOf s .long 
   unfolding dataRefusals
   number-same = rw shape-same
 
-  did-same : destination s p ≡ destination r p
+  pub did-same : destination s p ≡ destination r p
   unfolding destination
   did-same = ram (pageAt p + 1) (omega arith)
 

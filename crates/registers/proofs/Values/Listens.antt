@@ -1,15 +1,15 @@
 -- A card that a message or a recovery reaches is awake as it was, and stores a packet where it did; its RI stays.
 -- Assumes nothing.
 use mathlib.Core.Path.{_≡_, refl, _∙_}
-use mathlib.Core.Bool.{Bool}
+use mathlib.Core.Bool.{Bool, true, _&&_}
 use Prim.Native.Nat.{ℕ}
 use Rattle.registers.specs.declared.regs.Regs.{Regs}
-use Rattle.registers.specs.Words.{clear}
-use Rattle.registers.specs.Flags.{RI, RECON}
+use Rattle.registers.specs.Words.{clear, has}
+use Rattle.registers.specs.Flags.{RI, RECON, BROADCASTS}
 use Rattle.registers.specs.Fields.{with-status, with-diagnostic, with-nid}
 use Rattle.registers.specs.Fit.{awake}
 use Rattle.registers.specs.Events.{recovered, heard, answered, risenNid, receiving, takesBroadcasts, receivePage}
-use Rattle.registers.proofs.Words.Bools.{pick-of}
+use Rattle.registers.proofs.Words.Bools.{and-left, and-right, pick-of}
 use Rattle.registers.proofs.Words.Masks.{raise-other}
 use Rattle.registers.proofs.Values.SameCard.{awake-same}
 
@@ -71,3 +71,8 @@ module _ (g h : Regs) (b : Wakes g h) where
   pub receive-page-same : receivePage h ≡ receivePage g
   unfolding receivePage
   receive-page-same = rw (b .receive)
+
+-- a card that takes a broadcast has its receiver on
+pub takes-receives : (g : Regs) → takesBroadcasts g ≡ true → receiving g ≡ true
+unfolding takesBroadcasts
+takes-receives g e = and-right (awake g) (receiving g) (and-left (awake g && receiving g) (has BROADCASTS (g .receive)) e)
