@@ -5,3 +5,4 @@ pub mod Stored
 pub mod Carried
 pub mod Waiting
 pub mod Refused
+pub mod Sent

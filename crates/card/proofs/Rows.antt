@@ -4,4 +4,5 @@ pub mod Rams
 pub mod WellFormed
 pub mod Touched
 pub mod Accesses
+pub mod Moves
 pub mod Bystanders

@@ -1,4 +1,4 @@
 pub mod Row
 pub mod Access
 pub mod Packets
-pub mod Bystander
+pub mod Moves

@@ -8,6 +8,7 @@ use lib.ListN.{getD, take, drop}
 use lib.Seq.{sets}
 use Rattle.registers.specs.declared.regs.Regs.{Regs}
 use Rattle.registers.specs.Registers.{ramBytes}
+use Rattle.registers.specs.Layout.{bytesOf}
 use Rattle.registers.specs.Fit.{fit}
 
 -- "n rows of 1,088 bytes: 64 of registers, then 1,024 of RAM"
@@ -40,11 +41,6 @@ regsOf r = record {
   receive = getD r 14 0;
   long = getD r 15 0;
 }
-
-abbrev pub bytesOf : Regs → List ℕ
-bytesOf g =
-    g .id ∷ g .status ∷ g .diagnostic ∷ g .mask ∷ g .configuration ∷ g .setup ∷ g .tentative ∷ g .nid ∷ g .high ∷ g .low ∷ g .mode ∷
-    g .transmit ∷ g .receive ∷ g .long ∷ []
 
 -- the row with the registers g at bytes 2 to 15
 unfoldable pub putRegs : List ℕ → Regs → List ℕ

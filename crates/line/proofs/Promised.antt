@@ -2,3 +2,4 @@
 pub mod Faults
 pub mod Bystanding
 pub mod TheHolder
+pub mod EveryRow

@@ -2,7 +2,7 @@
 -- Assumes nothing.
 use mathlib.Core.Path.{_≡_}
 use mathlib.Core.Bool.{Bool, true, false, not, _&&_, _||_}
-use mathlib.Core.List.{List}
+use mathlib.Core.List.{List, [], _∷_}
 use Prim.Native.Nat.{ℕ}
 use lib.Dec.{eqb}
 use Rattle.registers.specs.declared.regs.Regs.{Regs}
@@ -11,25 +11,23 @@ use Rattle.line.specs.declared.traffic.Outcome.{Outcome}
 use Rattle.line.specs.declared.traffic.Outcome.the-variants.{Nothing, Malformed, Broadcast, NoAnswer, Nak, Delivered, Unacknowledged}
 use Rattle.line.specs.declared.step.Answer.{Answer}
 use Rattle.line.specs.declared.step.Answer.the-variants.{Refused, Quiet, Recovered, Passed, Unanswered, TokenLost, Held}
-use Rattle.registers.specs.Words.{pick, has}
+use Rattle.registers.specs.Words.{pick, has, among}
+use Rattle.registers.specs.Layout.{at-status, at-diagnostic, at-nid, at-transmit, at-receive}
 use Rattle.registers.specs.Flags.{TMA, TA}
-use Rattle.card.specs.Packets.{malformed, pageShape, destination}
-use Rattle.registers.specs.Events.{heard, cancelled, sent, enquired, transmitting, receiving, transmitPage}
-use Rattle.card.specs.Packets.{storable}
-use Rattle.table.specs.Network.{rows, phase, holder, TAKEN, rowAt, regsAt, nodeOf}
-use Rattle.line.specs.Traffic.{onRow, damaged, takes}
+use Rattle.card.specs.Packets.{pageAt, malformed, pageShape, destination, storable}
+use Rattle.card.specs.Moves.{inPacket}
+use Rattle.registers.specs.Events.{heard, cancelled, sent, enquired, transmitting, receiving, transmitPage, receivePage}
+use Rattle.table.specs.Network.{rows, phase, holder, LOST, PASS, TAKEN, rowAt, regsAt, nodeOf}
+use Rattle.line.specs.Traffic.{damaged, takes}
 use Rattle.line.specs.Step.{stepNumber}
 
 -- ---- who stores the packet of a step
--- the network when the holder's cancels have taken effect, the holder's row of it, the page of the packet that it tries, and the packet's shape and DID
-abbrev pub ready : List ℕ → List ℕ
-ready net = onRow net (holder net) cancelled
-
+-- the holder's row, the page of the packet that it tries, and the packet's shape and DID
 abbrev pub sender : List ℕ → List ℕ
-sender net = rowAt (ready net) (holder net)
+sender net = rowAt net (holder net)
 
 abbrev pub sentPage : List ℕ → ℕ
-sentPage net = transmitPage (regsAt (ready net) (holder net))
+sentPage net = transmitPage (regsAt net (holder net))
 
 abbrev pub sentShape : List ℕ → Shape
 sentShape net = pageShape (sender net) (sentPage net)
@@ -39,15 +37,26 @@ sentTo net = destination (sender net) (sentPage net)
 
 -- the row that the enquiry finds; no row, where the packet is broadcast or nobody has the ID
 abbrev pub addressee : List ℕ → ℕ
-addressee net = pick (eqb (sentTo net) 0) (rows (ready net)) (nodeOf (ready net) (sentTo net) (holder net) (rows (ready net)))
+addressee net = pick (eqb (sentTo net) 0) (rows net) (nodeOf net (sentTo net) (holder net) (rows net))
 
 -- row j stores it: the step is not refused, the holder tries a packet after its cancels, and row j takes it, with RI 0; "a long packet at a row with long
 -- packets 0, or fault 1, stores nothing there"
 unfoldable pub stores : List ℕ → ℕ → ℕ → Bool
 stores net fault j =
-    eqb (stepNumber net fault) 0 && (eqb (phase net) TAKEN && (transmitting (regsAt (ready net) (holder net)) && (not (malformed (sentShape net))
+    eqb (stepNumber net fault) 0 && (eqb (phase net) TAKEN && (transmitting (cancelled (regsAt net (holder net))) && (not (malformed (sentShape net))
     && (not (damaged fault) && (takes (holder net) (addressee net) (eqb (sentTo net) 0) j (regsAt net j)
     && (receiving (regsAt net j) && storable (regsAt net j) (sentShape net)))))))
+
+-- ---- "no other byte moves": the bytes of row j that a step may move, where the row stores the packet or does not
+-- LOST: "RECON is set in every awake row, each on-line row's NID becomes its own ID". PASS: RCVACT, TOKEN, DUPID and TENTID in the rows; "NID rises by one". TAKEN:
+-- in the holder its cancels, RCVACT, TA, TMA and byte 13, and "own ID .. at byte 0 of the transmit page"; in the others RCVACT, and where the packet is stored
+-- "RI = 1, byte 14 zero", and its places in the receive page
+abbrev pub rowMoves : List ℕ → Bool → ℕ → ℕ → Bool
+rowMoves net storing j i =
+    pick (eqb (phase net) LOST) (among (at-status ∷ at-nid ∷ []) i)
+    (pick (eqb (phase net) PASS) (eqb i at-diagnostic || eqb j (holder net) && eqb i at-nid)
+    (pick (eqb j (holder net)) (among (at-status ∷ at-diagnostic ∷ at-transmit ∷ at-receive ∷ []) i || eqb i (pageAt (sentPage net)))
+    (eqb i at-diagnostic || storing && (among (at-status ∷ at-receive ∷ []) i || inPacket (receivePage (regsAt net j)) (sentShape net) i))))
 
 -- ---- what an outcome says of the holder's TA and TMA after the step
 -- "Nothing (TA already 1). Malformed: TA = 1. DID 0, Broadcast: TA = 1 .. NoAnswer, TA = 1; .. NAK, TA stays 0; .. Delivered, TA = 1 and TMA = 1.

@@ -4,6 +4,7 @@ pub mod FitBytes
 pub mod FitEvents
 pub mod FitCalls
 pub mod SameCard
+pub mod Keeps
 pub mod Ends
 pub mod Listens
 pub mod Loads

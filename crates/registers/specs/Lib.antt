@@ -5,6 +5,6 @@ pub mod Fields
 pub mod Fit
 pub mod Commands
 pub mod Registers
+pub mod Layout
 pub mod Refusals
 pub mod Events
-pub mod SameBut

@@ -1,6 +1,6 @@
 -- The words that the definitions are written in: a choice, a list of tests, and the bits of a byte.
 -- Assumes nothing.
-use mathlib.Core.Bool.{Bool, true, false, not, _&&_}
+use mathlib.Core.Bool.{Bool, true, false, not, _&&_, _||_}
 use mathlib.Core.List.{List, [], _∷_}
 use Prim.Native.Nat.{ℕ, _-_}
 use lib.Bits.{bitAnd, bitOr}
@@ -17,6 +17,11 @@ allAfter b (c ∷ l) = allAfter (b && c) l
 
 abbrev pub all : List Bool → Bool
 all l = allAfter true l
+
+-- the number i is one of the list
+abbrev pub among : List ℕ → ℕ → Bool
+among [] i = false
+among (a ∷ l) i = eqb i a || among l i
 
 -- none of the bits f is set in the byte x; some bit of f is
 abbrev pub clear : ℕ → ℕ → Bool

@@ -136,3 +136,9 @@ module _ (f : ℕ → Bool) where
   pub seek-more : (k : ℕ) → seek f k ≡ k → f k ≡ false → seek f (k + 1) ≡ k + 1
   unfolding seek
   seek-more k s t = rw (add-one, s, le-ltb k k (omega arith), t)
+
+-- two tests that agree below n find the same
+pub seek-same : (f g : ℕ → Bool) (n : ℕ) → ((j : ℕ) → j < n → f j ≡ g j) → seek f n ≡ seek g n
+unfolding seek
+seek-same f g zero e = refl
+seek-same f g (suc n) e = rw (seek-same f g n (λ j l. e j (omega arith)), e n (omega arith))

@@ -11,8 +11,10 @@ use Rattle.registers.specs.Words.{pick}
 use Rattle.registers.specs.Numbers.{VALUE, NOTREADY, Refusal, _when_, told}
 use Rattle.registers.specs.Fit.{onLine}
 use Rattle.registers.specs.Registers.{interrupt, afterWrite}
+use Rattle.registers.specs.Layout.{at-diagnostic}
 use Rattle.registers.specs.Refusals.{readRefusals, writeRefusals}
 use Rattle.card.specs.Access.{valueRead, rowAfterRead, rowAfterWrite, rowAfterReset, freshRow}
+use Rattle.card.specs.Moves.{writeMoves}
 use Rattle.card.specs.Packets.{dataRefusals, dataFrom, pageData}
 use Rattle.registers.specs.Events.{burst}
 use Rattle.table.specs.Numbers.{SHAPE, ROW, DUPLICATE, ROOM}
@@ -70,6 +72,11 @@ unfoldable pub netAfterWrite : List ℕ → ℕ → ℕ → ℕ → List ℕ
 netAfterWrite net k g v =
     pick (eqb (netWriteNumber net k g v) 0)
     (settled (setRow net k (rowAfterWrite (rowAt net k) g v)) k (onLineAt net k)) net
+
+-- the bytes of row k that a write may move: those of the register, and MYRECON's where the row comes on line
+abbrev pub netWriteMoves : List ℕ → ℕ → ℕ → ℕ → ℕ → Bool
+netWriteMoves net k g v i =
+    writeMoves (rowAt net k) g i || not (onLineAt net k) && onLine (afterWrite (regsAt net k) g v) && eqb i at-diagnostic
 
 -- ---- hardware reset, timer, interrupt
 unfoldable pub netAfterReset : List ℕ → ℕ → List ℕ

@@ -10,6 +10,7 @@ use Rattle.registers.specs.declared.regs.Regs.{Regs}
 use Rattle.registers.specs.Words.{pick, all}
 use Rattle.card.specs.Row.{rowBytes, regsOf, putRegs, zeros, wellFormed}
 use Rattle.registers.specs.Fit.{onLine}
+use Rattle.card.specs.Moves.{OnlyAt}
 use Rattle.table.specs.Folds.{every, some, seek}
 
 -- "Header, 16 bytes: mark 41 4E hex; byte 2 = 1; byte 3 = rows n, 1 to 60; byte 4 = phase (0 LOST, 1 PASS, 2 TAKEN); byte 5 = holder row,
@@ -120,7 +121,8 @@ pub record SameFrame (net new : List ℕ) : Type 0 where
   pub size : length new ≡ length net
   pub header : (i : ℕ) → i < headerBytes → (i ≡ 4 → ⊥) → (i ≡ 5 → ⊥) → getD new i 0 ≡ getD net i 0
 
--- and whose rows are the same but for row k
-pub record OnlyRow (net new : List ℕ) (k : ℕ) : Type 0 where
+-- and whose rows are the same but for row k, of which only the bytes that `moves` names may differ
+pub record OnlyRow (net new : List ℕ) (k : ℕ) (moves : ℕ → Bool) : Type 0 where
   pub frame : SameFrame net new
   pub others : (j : ℕ) → j < rows net → (j ≡ k → ⊥) → rowAt new j ≡ rowAt net j
+  pub row : OnlyAt moves (rowAt net k) (rowAt new k)

@@ -10,7 +10,8 @@ use lib.Dec.{lit<}
 use lib.ListN.{length, getD, set, drop, length-set, length-drop}
 use lib.Seq.{sets, length-sets, getD-set-other, getD-set-same, getD-take, getD-drop, ext-getD, length-take-le}
 use Rattle.registers.specs.declared.regs.Regs.{Regs}
-use Rattle.card.specs.Row.{registerBytes, regsOf, bytesOf, putRegs, spare, zeros, marked, wellFormed}
+use Rattle.card.specs.Row.{registerBytes, regsOf, putRegs, spare, zeros, marked, wellFormed}
+use Rattle.registers.specs.Layout.{bytesOf}
 use Rattle.registers.specs.Fit.{fit}
 use Rattle.registers.proofs.Words.Bools.{and-left, and-right}
 
@@ -53,11 +54,37 @@ module _ (r : List ℕ) (g : Regs) where
   unfolding putRegs
   put-rest i h = above i r 2 (bytesOf g) h
 
+  pub put-at : 16 ≤ length r → (k : ℕ) → k < 14 → getD (putRegs r g) (2 + k) 0 ≡ getD (bytesOf g) k 0
+  unfolding putRegs
+  put-at h k b = within r 2 (bytesOf g) k h b
+
   pub regs-put : 16 ≤ length r → regsOf (putRegs r g) ≡ g
   unfolding regsOf putRegs
   regs-put h =
       let e : (k : ℕ) → k < 14 → getD (sets r 2 (bytesOf g)) (2 + k) 0 ≡ getD (bytesOf g) k 0 = λ k hk. within r 2 (bytesOf g) k h hk in
       rw (e 0 (lit< tt), e 1 (lit< tt), e 2 (lit< tt), e 3 (lit< tt), e 4 (lit< tt), e 5 (lit< tt), e 6 (lit< tt), e 7 (lit< tt), e 8 (lit< tt), e 9 (lit< tt), e 10 (lit< tt), e 11 (lit< tt), e 12 (lit< tt), e 13 (lit< tt))
+
+-- the registers stand at their bytes
+pub regs-at : (r : List ℕ) (k : ℕ) → k < 14 → getD (bytesOf (regsOf r)) k 0 ≡ getD r (2 + k) 0
+unfolding regsOf
+regs-at r k h = at k h
+  where
+    at : (k : ℕ) → k < 14 → getD (bytesOf (regsOf r)) k 0 ≡ getD r (2 + k) 0
+    at zero h = refl
+    at (suc zero) h = refl
+    at (suc (suc zero)) h = refl
+    at (suc (suc (suc zero))) h = refl
+    at (suc (suc (suc (suc zero)))) h = refl
+    at (suc (suc (suc (suc (suc zero))))) h = refl
+    at (suc (suc (suc (suc (suc (suc zero)))))) h = refl
+    at (suc (suc (suc (suc (suc (suc (suc zero))))))) h = refl
+    at (suc (suc (suc (suc (suc (suc (suc (suc zero)))))))) h = refl
+    at (suc (suc (suc (suc (suc (suc (suc (suc (suc zero))))))))) h = refl
+    at (suc (suc (suc (suc (suc (suc (suc (suc (suc (suc zero)))))))))) h = refl
+    at (suc (suc (suc (suc (suc (suc (suc (suc (suc (suc (suc zero))))))))))) h = refl
+    at (suc (suc (suc (suc (suc (suc (suc (suc (suc (suc (suc (suc zero)))))))))))) h = refl
+    at (suc (suc (suc (suc (suc (suc (suc (suc (suc (suc (suc (suc (suc zero))))))))))))) h = refl
+    at (suc (suc (suc (suc (suc (suc (suc (suc (suc (suc (suc (suc (suc (suc k)))))))))))))) h = absurd (omega arith)
 
 -- ---- well-formedness, by parts
 module _ (r : List ℕ) where

@@ -15,7 +15,8 @@ use Rattle.card.specs.Packets.{dataAt, stamped}
 use Rattle.registers.specs.Events.{heard, risenNid, cancelled, sent, enquired, transmitting, receiving, transmitPage}
 use Rattle.card.specs.Packets.{storable}
 use Rattle.card.proofs.Rows.Rams.{Small}
-use Rattle.table.specs.Network.{phase, holder, LOST, PASS, TAKEN, turned, onRegs, regsAt}
+use Rattle.card.proofs.Pages.Sent.{SentFrom}
+use Rattle.table.specs.Network.{phase, holder, LOST, PASS, TAKEN, turned, rowAt, onRegs, regsAt}
 use Rattle.line.specs.Traffic.{onRow, happens, happened, takes, carriedRow, carried, stampedNet}
 use Rattle.table.proofs.Shaped.Shapes.{OnLineRow}
 
@@ -107,17 +108,18 @@ pub record Tries (start : List ℕ) : Type 0 where
   pub taken : phase start ≡ TAKEN
   pub waits : transmitting (cancelled (regsAt start (holder start))) ≡ true
 
--- a packet goes, none has gone before, to no row or to one that is not the holder
+-- a packet goes, none has gone before, to no row or to one that is not the holder; it is that of the holder's page, with its ID at byte 0
 pub record Goes (start : List ℕ) (l : List Change) (to : ℕ) (k : Packet) : Type 0 where
   pub tries : Tries start
   pub once : (j : ℕ) (g : Regs) → storedBy (holder start) l j g ≡ false
   pub whole : Whole k
+  pub packet : SentFrom (rowAt start (holder start)) (transmitPage (regsAt start (holder start))) k
   pub other : to ≡ holder start → ⊥
 
--- a message is the holder's, and an invitation only in PASS
+-- a message is the holder's
 abbrev pub Comes : List ℕ → Event → Type 0
 Comes start Recovery = phase start ≡ LOST
-Comes start (Message k token) = (k ≡ holder start) × (token ≡ true → phase start ≡ PASS)
+Comes start (Message k token) = (k ≡ holder start) × (phase start ≡ LOST → ⊥)
 Comes start (Taken i t) = phase start ≡ PASS
 
 abbrev pub Allowed : List ℕ → List Change → Change → Type 0

@@ -122,10 +122,11 @@ module _ (net : List ℕ) (h : ℕ) (s : shape net ≡ true) (l : h < rows net) 
     rows-done = became-rows moved-done
 
   -- the holder's own registers after a change of them, and every other row
+  pub own-row : (o : Own) → rowAt (onRow net h (does o)) h ≡ onRegs (does o) (rowAt net h)
+  own-row o = made (Does o) tt .row h l ∙ rw (eq-eqb h h refl)
+
   pub own-here : (o : Own) → regsAt (onRow net h (does o)) h ≡ does o (regsAt net h)
-  own-here o =
-      let i : rowAt (onRow net h (does o)) h ≡ onRegs (does o) (rowAt net h) = made (Does o) tt .row h l ∙ rw (eq-eqb h h refl) in
-      ap regsOf i ∙ regs-put (rowAt net h) _ (omega (arith, shape-row-length net s h l))
+  own-here o = ap regsOf (own-row o) ∙ regs-put (rowAt net h) _ (omega (arith, shape-row-length net s h l))
 
   pub own-there : (o : Own) (j : ℕ) → j < rows net → (j ≡ h → ⊥) → rowAt (onRow net h (does o)) j ≡ rowAt net j
   own-there o j b n = made (Does o) tt .row j b ∙ rw (ne-eqb j h n)

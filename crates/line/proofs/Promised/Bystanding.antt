@@ -1,132 +1,222 @@
--- What a step does to a row that does not hold in TAKEN: it stores the packet, or only its status, its diagnostic status and its NID may change.
+-- What a step does to a row that does not hold in TAKEN: which of its bytes may move, and that it holds the packet where it stores one.
 -- Assumes nothing.
 use mathlib.Core.Path.{_≡_, refl, _∙_, ap}
 use mathlib.Core.Bool.{Bool, true, false, _&&_, _||_}
-use mathlib.Core.List.{List, _∷_}
+use mathlib.Core.List.{List, [], _∷_}
 use Prim.Native.Nat.{ℕ, _+_, _≤_, _<_}
 use native.Mathlib.Omega.{arith}
 use lib.Dec.{eqb}
 use lib.ListN.{length}
-use borrow.Author.Tests.{eqb-true}
+use borrow.Author.Tests.{eqb-true, eqb-false, eq-eqb, ne-eqb}
 use Rattle.registers.specs.declared.regs.Regs.{Regs}
 use Rattle.card.specs.declared.packets.Packet.{Packet}
 use Rattle.line.specs.declared.passes.Event.{Event}
 use Rattle.line.specs.declared.passes.Event.the-variants.{Recovery, Message, Taken}
-use Rattle.registers.specs.Words.{pick}
+use Rattle.registers.specs.Words.{pick, among}
+use Rattle.registers.specs.Layout.{at-status, at-diagnostic, at-nid, at-receive}
+use Rattle.registers.specs.Events.{risenNid, receiving, receivePage}
 use Rattle.card.specs.Row.{rowBytes, regsOf, putRegs, wellFormed}
-use Rattle.card.specs.Packets.{pageBytes, pageAt}
-use Rattle.registers.specs.Events.{receiving, receivePage}
-use Rattle.card.specs.Packets.{storable}
-use Rattle.card.specs.Bystander.{Bystander, Storing}
-use Rattle.registers.proofs.Words.Bools.{and-left, and-right, pick-of, or-false}
+use Rattle.card.specs.Packets.{pageBytes, pageAt, stored, storable}
+use Rattle.card.specs.Moves.{OnlyAt, inPacket}
+use Rattle.registers.proofs.Words.Bools.{and-left, and-right, or-left, or-right, or-false, pick-of, pick-both}
+use Rattle.registers.proofs.Values.Fits.{Fit, fit-rules}
+use Rattle.registers.proofs.Values.Keeps.{Keeps, keeps-same, keeps-recovered, keeps-heard, keeps-answered, keeps-risen, keeps-received}
+use Rattle.registers.proofs.Values.Ends.{transmit-page-small}
+use Rattle.registers.proofs.Values.Listens.{Listens, listens-same, listens-recovered, listens-heard, listens-answered, reached-risen, takes-same, receive-page-same}
 use Rattle.card.proofs.Rows.Bytes.{regs-put, well-fit}
-use Rattle.registers.proofs.Values.Fits.{fit-rules}
+use Rattle.card.proofs.Rows.Moves.{only-stays, only-then, only-wider, only-put, only-stored}
+use Rattle.card.proofs.Rows.Bystanders.{storable-same, Bystander, bystander-same, bystander-then, bystander-put, Storing, stores-after, stores-then, room, stores-stored}
 use Rattle.card.proofs.Pages.Stored.{length-stored}
-use Rattle.card.proofs.Pages.Waiting.{receive-room}
-use Rattle.registers.proofs.Values.Listens.{Listens, listens-same, listens-recovered, listens-heard, listens-answered, reached-risen, takes-same}
-use Rattle.card.proofs.Rows.Bystanders.{storable-same, bystander-same, bystander-then, bystander-put, stores-after, stores-then, stores-stored}
-use Rattle.table.specs.Network.{rows, phase, holder, TAKEN, rowAt, regsAt, shape}
+use Rattle.card.proofs.Pages.Sent.{SentFrom}
+use Rattle.table.specs.Network.{rows, phase, holder, LOST, PASS, TAKEN, rowAt, onRegs, regsAt, shape}
 use Rattle.line.specs.Traffic.{happens, storedRow, takes, carriedRow}
 use Rattle.line.specs.Step.{step}
-use Rattle.line.specs.Outcomes.{stores}
+use Rattle.line.specs.Outcomes.{sender, sentPage, sentShape, stores, rowMoves}
+use Rattle.table.proofs.Shaped.Shapes.{shape-phase, shape-row-length}
 use Rattle.table.proofs.Shaped.Alike.{Rams}
-use Rattle.line.proofs.Change.Changes.{Rises, Cancels, Enquires, Ends, Change, Reaches, Does, Stamps, Carries, rowDone, Whole, Allowed, storesIt, storedBy}
+use Rattle.line.proofs.Change.Changes.{Rises, Cancels, Enquires, Ends, Change, Reaches, Does, Stamps, Carries, rowDone, Whole, Tries, Goes, Comes, Allowed, storesIt, storedBy}
 use Rattle.line.proofs.Change.Paths.{by-rows}
+use Rattle.line.proofs.Steps.Stepped.{held-row}
 use Rattle.line.proofs.Steps.StepBy.{step-by}
 
 -- ---- a row that stored the packet, or has not: a bystander whose RI stays
 abbrev Receives : List ℕ → Bool
 Receives r = receiving (regsOf r)
 
-abbrev Watches : Bool → List ℕ → List ℕ → Type 0
-Watches true r s = Storing r s
-Watches false r s = Bystander r s × (Receives s ≡ Receives r)
-
-watches-put : (b : Bool) (r s : List ℕ) → length s ≡ rowBytes → (g : Regs) → Listens (regsOf s) g → Watches b r s → Watches b r (putRegs s g)
-watches-put b r s l g e =
-    let m = bystander-put s g (omega arith) (e .but) in
-    let i = ap receiving (regs-put s g (omega arith)) ∙ e .receives in
-    on b m i
-  where
-    on : (b : Bool) → Bystander s (putRegs s g) → Receives (putRegs s g) ≡ Receives s → Watches b r s → Watches b r (putRegs s g)
-    on true m i w = stores-then r s _ w m i
-    on false m i w = (bystander-then r s _ (w .0) m, i ∙ w .1)
-
 reaches : (e : Event) (k : ℕ) (g : Regs) → Listens g (happens e k g)
 reaches Recovery k g = listens-recovered g
 reaches (Message h token) k g = pick-of (Listens g) (eqb k h) (λ _. listens-same g) (λ _. listens-heard g token)
 reaches (Taken i t) k g = listens-answered g i (eqb k t)
 
--- ---- a packet reaches the row s, which was r
-module _ (h to : ℕ) (broadcast : Bool) (k : Packet) (a : Whole k) (j : ℕ) (r s : List ℕ) (l : length s ≡ rowBytes) (w : wellFormed s ≡ true) where
-  abbrev Asks : List ℕ → Bool
-  Asks x = storesIt h (Carries to broadcast k) j (regsOf x)
-
-  asks-same : Bystander r s → Receives s ≡ Receives r → Asks s ≡ Asks r
-  asks-same b e =
-      rw (takes-same (regsOf r) (regsOf s) (b .registers) e, storable-same (regsOf r) (regsOf s) (b .registers) (k .shape), e)
-
-  asks-receives : Asks s ≡ true → Receives s ≡ true
-  asks-receives e =
-      let t = takes h to broadcast j (regsOf s) in
-      and-right t (Receives s) (and-left (t && Receives s) (storable (regsOf s) (k .shape)) e)
-
-  watches-stored : Bystander r s → Receives s ≡ Receives r → Asks s ≡ true → Storing r (storedRow s k)
-  watches-stored b i e =
-      let q = asks-receives e in
-      let t = takes h to broadcast j (regsOf s) in
-      let can = and-right (t && Receives s) (storable (regsOf s) (k .shape)) e in
-      let room : pageAt (receivePage (regsOf s)) + pageBytes (k .shape) ≤ length s
-      = omega (arith, l, receive-room (regsOf s) (fit-rules (regsOf s) (well-fit s w)) q (k .shape) can) in
-      stores-after r s _ b i
-      (stores-stored s k room (a .full) (a .count) can (omega (arith, l, length-stored s (receivePage (regsOf s)) k room (a .full) (a .count))) q)
-
-  by-asking : (x : Bool) → (x ≡ true → Storing r (storedRow s k)) → Watches false r s → Watches x r (pick x (storedRow s k) s)
-  by-asking true p q = p refl
-  by-asking false p q = q
-
-  watches-carried : Watches false r s → Watches (Asks r || false) r (carriedRow h to broadcast k j s)
-  watches-carried q = rw (or-false (Asks r), ← asks-same (q .0) (q .1)) (by-asking (Asks s) (watches-stored (q .0) (q .1)) q)
-
--- ---- a step
 module _ (net : List ℕ) (s : shape net ≡ true) (b : Rams net) (fault : ℕ) where
-  abbrev Aside : ℕ → Type 0
-  Aside j = phase net ≡ TAKEN → j ≡ holder net → ⊥
+  abbrev h : ℕ
+  h = holder net
 
-  abbrev Seen : List Change → ℕ → List ℕ → Type 0
-  Seen l j r = Aside j → Watches (storedBy (holder net) l j (regsAt net j)) (rowAt net j) r
+  abbrev Watches : Bool → List ℕ → List ℕ → Type 0
+  Watches true r t = Storing (sender net) (sentPage net) r t
+  Watches false r t = Bystander r t × (Receives t ≡ Receives r)
 
-  module _ (l : List Change) (j : ℕ) (n : Aside j) (r : List ℕ) (m : length r ≡ rowBytes) (w : wellFormed r ≡ true) (q : Watches (storedBy (holder net) l j (regsAt net j)) (rowAt net j) r) where
-    abbrev was : List ℕ
-    was = rowAt net j
+  watches-put : (x : Bool) (r t : List ℕ) → length t ≡ rowBytes → (g : Regs) → Listens (regsOf t) g → Watches x r t → Watches x r (putRegs t g)
+  watches-put x r t l g e =
+      let m = bystander-put t g (omega arith) (e .wakes) in
+      let i = ap receiving (regs-put t g (omega arith)) ∙ e .receives in
+      on x m i
+    where
+      on : (x : Bool) → Bystander t (putRegs t g) → Receives (putRegs t g) ≡ Receives t → Watches x r t → Watches x r (putRegs t g)
+      on true m i w = stores-then (sender net) (sentPage net) r t _ w m i
+      on false m i w = (bystander-then r t _ (w .0) m, i ∙ w .1)
 
-    abbrev x : Bool
-    x = storedBy (holder net) l j (regsAt net j)
+  -- ---- which of its bytes may move
+  module _ (j : ℕ) (aside : phase net ≡ TAKEN → j ≡ h → ⊥) where
+    abbrev Moves : Bool → List ℕ → List ℕ → Type 0
+    Moves x = OnlyAt (rowMoves net x j)
 
-    -- the holder's own changes are in TAKEN, but for the rise of its NID
-    not-mine : phase net ≡ TAKEN → (t : List ℕ) → Watches x was (pick (eqb j (holder net)) t r)
-    not-mine p t = pick-of (Watches x was) (eqb j (holder net)) (λ e. absurd (n p (eqb-true j (holder net) e))) (λ _. q)
+    taken : eqb (phase net) LOST ≡ false → eqb (phase net) PASS ≡ false → phase net ≡ TAKEN
+    taken t u = omega (arith, shape-phase net s, eqb-false (phase net) LOST t, eqb-false (phase net) PASS u)
 
-    seen : (c : Change) → Allowed net l c → Watches (storedBy (holder net) (c ∷ l) j (regsAt net j)) was (rowDone (holder net) c j r)
-    seen (Reaches e) a = watches-put x was r m (happens e j (regsOf r)) (reaches e j (regsOf r)) q
-    seen (Does Rises) a = pick-of (Watches x was) (eqb j (holder net)) (λ _. watches-put x was r m _ (reached-risen (regsOf r)) q) (λ _. q)
-    seen (Does Cancels) a = not-mine a _
-    seen (Does (Enquires nak)) a = not-mine (a .taken) _
-    seen (Does (Ends y z)) a = not-mine (a .taken) _
-    seen (Stamps p) a = not-mine (a .0 .taken) _
-    seen (Carries to broadcast k) a =
-        let e = a .once j (regsAt net j) in
-        rw e (watches-carried (holder net) to broadcast k (a .whole) j was r m w (rw e at q))
+    -- outside LOST, diagnostic status
+    heard-moves : (phase net ≡ LOST → ⊥) → (x : Bool) (i : ℕ) → rowMoves net x j i ≡ false → among (at-diagnostic ∷ []) i ≡ false
+    heard-moves n x i =
+        let P : Bool → Type 0 = λ y. y ≡ false → among (at-diagnostic ∷ []) i ≡ false in
+        let here : (y : Bool) → (eqb i at-diagnostic || y) ≡ false → among (at-diagnostic ∷ []) i ≡ false = λ y e. rw (or-left (eqb i at-diagnostic) y e) in
+        pick-of P (eqb (phase net) LOST) (λ t. absurd (n (eqb-true (phase net) LOST t)))
+        (λ t. pick-of P (eqb (phase net) PASS) (λ _. here _)
+        (λ u. pick-of P (eqb j h) (λ v. absurd (aside (taken t u) (eqb-true j h v))) (λ _. here _)))
 
-  module _ (j : ℕ) (l : j < rows net) (n : Aside j) where
-    watches : Watches (stores net fault j) (rowAt net j) (rowAt (step net fault .after) j)
+    -- an event
+    event-moves : (e : Event) → Comes net e → (x : Bool) (r : List ℕ) → length r ≡ rowBytes → Moves x r (onRegs (happens e j) r)
+    event-moves Recovery a x r l =
+        only-wider r _ (λ i e. rw (eq-eqb (phase net) LOST a) at e) (only-put (at-status ∷ at-nid ∷ []) r _ (omega arith) (keeps-recovered _ (regsOf r) refl refl))
+    event-moves (Message k token) a x r l =
+        only-wider r _ (heard-moves (a .1) x)
+        (only-put (at-diagnostic ∷ []) r _ (omega arith) (pick-of (Keeps (at-diagnostic ∷ []) (regsOf r)) (eqb j k) (λ _. keeps-same _ (regsOf r)) (λ _. keeps-heard _ (regsOf r) refl token)))
+    event-moves (Taken n t) a x r l =
+        only-wider r _ (heard-moves (λ e. omega (arith, a, e)) x) (only-put (at-diagnostic ∷ []) r _ (omega arith) (keeps-answered _ (regsOf r) refl n (eqb j t)))
+
+    -- the holder's NID rises in PASS
+    rise-moves : phase net ≡ PASS → (x : Bool) (r : List ℕ) → length r ≡ rowBytes → Moves x r (pick (eqb j h) (onRegs risenNid r) r)
+    rise-moves p x r l =
+        pick-of (Moves x r) (eqb j h)
+        (λ t. only-wider r _ (λ i e. let f : (eqb i at-diagnostic || eqb i at-nid) ≡ false = rw (p, t) at e in rw (or-right (eqb i at-diagnostic) (eqb i at-nid) f))
+        (only-put (at-nid ∷ []) r _ (omega arith) (keeps-risen _ (regsOf r) refl)))
+        (λ _. only-stays _ r)
+
+    -- ---- a packet reaches the row t, which was r
+    module _ (to : ℕ) (broadcast : Bool) (k : Packet) (a : Whole k) (z : Tries net) (sent : SentFrom (sender net) (sentPage net) k) (r t : List ℕ) (er : r ≡ rowAt net j)
+        (l : length t ≡ rowBytes) (w : wellFormed t ≡ true) (y : Bystander r t) (i : Receives t ≡ Receives r) where
+      abbrev Asks : List ℕ → Bool
+      Asks x = storesIt h (Carries to broadcast k) j (regsOf x)
+
+      asks-same : Asks t ≡ Asks r
+      asks-same = rw (takes-same (regsOf r) (regsOf t) (y .registers) i, storable-same (regsOf r) (regsOf t) (y .registers) (k .shape), i)
+
+      module _ (e : Asks t ≡ true) where
+        abbrev asked-for : Bool
+        asked-for = takes h to broadcast j (regsOf t)
+
+        on : Receives t ≡ true
+        on = and-right asked-for (Receives t) (and-left (asked-for && Receives t) (storable (regsOf t) (k .shape)) e)
+
+        can : storable (regsOf t) (k .shape) ≡ true
+        can = and-right (asked-for && Receives t) (storable (regsOf t) (k .shape)) e
+
+        fits : Fit (regsOf t)
+        fits = fit-rules (regsOf t) (well-fit t w)
+
+        page-small : sentPage net < 4
+        page-small = transmit-page-small (regsAt net h)
+
+        sender-size : length (sender net) ≡ rowBytes
+        sender-size = shape-row-length net s h (held-row net s)
+
+        watched : Storing (sender net) (sentPage net) r (storedRow t k)
+        watched =
+            stores-after (sender net) (sentPage net) r t _ y i (stores-stored (sender net) (sentPage net) sender-size page-small k sent (a .full) (a .count) t l fits on can)
+
+        abbrev q : ℕ
+        q = receivePage (regsOf t)
+
+        space : pageAt q + pageBytes (k .shape) ≤ length t
+        space = room (sender net) (sentPage net) sender-size page-small k sent (a .full) (a .count) t l fits on can
+
+        moved : Moves true t (storedRow t k)
+        moved =
+            let x = stored t q k in
+            let n = ne-eqb j h (aside (z .taken)) in
+            let split : (v : ℕ) → rowMoves net true j v ≡ false → (among (at-status ∷ at-receive ∷ []) v ≡ false) × (inPacket (receivePage (regsOf r)) (sentShape net) v ≡ false)
+            = λ v u. let f : (eqb v at-diagnostic || (among (at-status ∷ at-receive ∷ []) v || inPacket (receivePage (regsOf r)) (sentShape net) v)) ≡ false
+            = rw (z .taken, n, ← er) at u in
+            let g = or-right (eqb v at-diagnostic) _ f in (or-left (among (at-status ∷ at-receive ∷ []) v) _ g, or-right (among (at-status ∷ at-receive ∷ []) v) _ g) in
+            only-then t x _
+            (only-wider t x (λ v u. rw (receive-page-same (regsOf r) (regsOf t) (y .registers), sent .form) (split v u .1)) (only-stored t q k space (a .full) (a .count)))
+            (only-wider x _ (λ v u. split v u .0)
+            (only-put (at-status ∷ at-receive ∷ []) x _ (omega (arith, l, length-stored t q k space (a .full) (a .count))) (keeps-received _ (regsOf x) refl refl)))
+
+    -- ---- through each change
+    record Seen (x : Bool) (r : List ℕ) : Type 0 where
+      watches : Watches x (rowAt net j) r
+      moves : Moves x (rowAt net j) r
+
+    module _ (l : List Change) (r : List ℕ) (m : length r ≡ rowBytes) (w : wellFormed r ≡ true) (q : Seen (storedBy h l j (regsAt net j)) r) where
+      abbrev x : Bool
+      x = storedBy h l j (regsAt net j)
+
+      abbrev was : List ℕ
+      was = rowAt net j
+
+      -- the holder's own changes are in TAKEN, but for the rise of its NID
+      not-mine : phase net ≡ TAKEN → (t : List ℕ) → Seen x (pick (eqb j h) t r)
+      not-mine p t = pick-of (Seen x) (eqb j h) (λ e. absurd (aside p (eqb-true j h e))) (λ _. q)
+
+      then : (t : List ℕ) → Watches x was t → Moves x r t → Seen x t
+      then t a o = record { watches = a; moves = only-then was r t (q .moves) o }
+
+      carries : (to : ℕ) (broadcast : Bool) (k : Packet) → Goes net l to k → Seen (storesIt h (Carries to broadcast k) j (regsAt net j) || x) (carriedRow h to broadcast k j r)
+      carries to broadcast k a =
+          let none = a .once j (regsAt net j) in
+          let v : Seen false r = rw none at q in
+          let y = v .watches in
+          let e = asks-same to broadcast k (a .whole) (a .tries) (a .packet) was r refl m w (y .0) (y .1) in
+          rw (none, or-false (storesIt h (Carries to broadcast k) j (regsAt net j)), ← e)
+          (by-asking (storesIt h (Carries to broadcast k) j (regsOf r))
+          (λ t. record {
+            watches = watched to broadcast k (a .whole) (a .tries) (a .packet) was r refl m w (y .0) (y .1) t;
+            moves = only-then was r _ (only-wider was r (unstored true) (v .moves)) (moved to broadcast k (a .whole) (a .tries) (a .packet) was r refl m w (y .0) (y .1) t);
+          }) v)
+        where
+          by-asking : (x : Bool) {t : List ℕ} → (x ≡ true → Seen true t) → Seen false r → Seen x (pick x t r)
+          by-asking true p q = p refl
+          by-asking false p q = q
+
+          -- a row that stores may move all that a bystander may
+          unstored : (y : Bool) (i : ℕ) → rowMoves net y j i ≡ false → rowMoves net false j i ≡ false
+          unstored false i = λ e. e
+          unstored true i =
+              pick-both (λ (a b : Bool). a ≡ false → b ≡ false) (eqb (phase net) LOST) (λ e. e)
+              (pick-both (λ (a b : Bool). a ≡ false → b ≡ false) (eqb (phase net) PASS) (λ e. e)
+              (pick-both (λ (a b : Bool). a ≡ false → b ≡ false) (eqb j h) (λ e. e) (λ e. or-false (eqb i at-diagnostic) ∙ or-left (eqb i at-diagnostic) _ e)))
+
+      seen : (c : Change) → Allowed net l c → Seen (storedBy h (c ∷ l) j (regsAt net j)) (rowDone h c j r)
+      seen (Reaches e) a = then _ (watches-put x was r m (happens e j (regsOf r)) (reaches e j (regsOf r)) (q .watches)) (event-moves e a x r m)
+      seen (Does Rises) a =
+          then _ (pick-of (Watches x was) (eqb j h) (λ _. watches-put x was r m _ (reached-risen (regsOf r)) (q .watches)) (λ _. q .watches)) (rise-moves a x r m)
+      seen (Does Cancels) a = not-mine a _
+      seen (Does (Enquires nak)) a = not-mine (a .taken) _
+      seen (Does (Ends y z)) a = not-mine (a .taken) _
+      seen (Stamps p) a = not-mine (a .0 .taken) _
+      seen (Carries to broadcast k) a = carries to broadcast k a
+
+  -- ---- a step
+  module _ (j : ℕ) (l : j < rows net) (n : phase net ≡ TAKEN → j ≡ h → ⊥) where
+    watches : Seen j n (stores net fault j) (rowAt (step net fault .after) j)
     watches =
         let t = step-by net s b fault in
-        rw (← t .stored j l) (by-rows net s b Seen (λ i _ _. (bystander-same (rowAt net i), refl))
-        (λ k c a i r m w q u. seen k i u r m w (q u) c a) (t .path) j l n)
+        rw (← t .stored j l) (by-rows net s b (λ c i r. (u : phase net ≡ TAKEN → i ≡ h → ⊥) → Seen i u (storedBy h c i (regsAt net i)) r)
+        (λ i _ u. record { watches = (bystander-same (rowAt net i), refl); moves = only-stays _ (rowAt net i) })
+        (λ k c a i r m w q u. seen i u k r m w (q u) c a) (t .path) j l n)
 
-    pub bystands : stores net fault j ≡ false → Bystander (rowAt net j) (rowAt (step net fault .after) j)
-    bystands e = (rw e at watches) .0
+    pub moves-aside : OnlyAt (rowMoves net (stores net fault j) j) (rowAt net j) (rowAt (step net fault .after) j)
+    moves-aside = watches .moves
 
-    pub fills : stores net fault j ≡ true → Storing (rowAt net j) (rowAt (step net fault .after) j)
-    fills e = rw e at watches
+    pub fills : stores net fault j ≡ true → Storing (sender net) (sentPage net) (rowAt net j) (rowAt (step net fault .after) j)
+    fills e = (rw e at watches) .watches

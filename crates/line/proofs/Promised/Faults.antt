@@ -15,16 +15,11 @@ use Rattle.registers.specs.Words.{pick}
 use Rattle.card.specs.Packets.{malformed, pageShape, destination}
 use Rattle.registers.specs.Events.{cancelled, transmitting, receiving, transmitPage}
 use Rattle.card.specs.Packets.{storable}
-use Rattle.registers.proofs.Words.Bools.{cases, pick-of}
+use Rattle.registers.proofs.Words.Bools.{cases, pick-of, pick-both}
 use Rattle.table.specs.Network.{rows, phase, holder, LOST, PASS, rowAt, regsAt, nodeOf}
 use Rattle.line.specs.Traffic.{Turn, onRow, wentOut, broadcastTurn, packetTurn, enquiryTurn, tryTurn, takenTurn}
 use Rattle.line.specs.Step.{taker, passTurn, held, stepTurn, stepRefusals, stepNumber, step}
 use Rattle.line.specs.Outcomes.{meets}
-
--- what holds of both pairs of choices holds of the pair that is chosen
-pick-both : {A : Type 0} (P : A → A → Type 0) {x y u v : A} (b : Bool) → P x u → P y v → P (pick b x y) (pick b u v)
-pick-both P true p q = p
-pick-both P false p q = q
 
 -- a turn with the fault is the turn without, where the fault meets nothing in it
 abbrev Same : ℕ → Turn Outcome → Turn Outcome → Type 0

@@ -26,14 +26,14 @@ use Rattle.line.proofs.Change.Paths.{sound, frame}
 use Rattle.line.proofs.Turn.TakenBy.{By, SaysHeld, taken-by}
 
 -- what an answer says of what the step did to the holder's own registers
-abbrev pub Says : List ℕ → (Regs → Regs) → Answer → Type 0
-Says net f (Refused n) = (g : Regs) → f g ≡ g
-Says net f Quiet = (g : Regs) → f g ≡ g
-Says net f (Recovered r) = (g : Regs) → f g ≡ g
-Says net f (Passed r) = (g : Regs) → f g ≡ g
-Says net f (Unanswered i) = (g : Regs) → f g ≡ risenNid g
-Says net f TokenLost = (g : Regs) → f g ≡ g
-Says net f (Held o) = SaysHeld net f o
+abbrev pub Says : List ℕ → ℕ → (Regs → Regs) → Answer → Type 0
+Says net fault f (Refused n) = (g : Regs) → f g ≡ g
+Says net fault f Quiet = (g : Regs) → f g ≡ g
+Says net fault f (Recovered r) = (g : Regs) → f g ≡ g
+Says net fault f (Passed r) = (g : Regs) → f g ≡ g
+Says net fault f (Unanswered i) = (g : Regs) → f g ≡ risenNid g
+Says net fault f TokenLost = (g : Regs) → f g ≡ g
+Says net fault f (Held o) = SaysHeld net fault f o
 
 -- nobody holds, or a row on line does
 lost : (net : List ℕ) → Turns net LOST 0
@@ -44,7 +44,7 @@ holds net p t low small d = record { small = small; nobody = λ e. absurd (omega
 
 module _ (net : List ℕ) (s : shape net ≡ true) (b : Rams net) (fault : ℕ) where
   abbrev Steps : Turn Answer → Type 0
-  Steps = By (Says net) net fault
+  Steps = By (Says net fault) net fault
 
   module _ (z : eqb (stepNumber net fault) 0 ≡ true) where
     -- outside TAKEN nothing is stored
@@ -69,9 +69,10 @@ module _ (net : List ℕ) (s : shape net ≡ true) (b : Rams net) (fault : ℕ) 
     pass-by p =
         let h = holder net in
         let n = unstored (λ e. omega (arith, p, e)) in
-        let c = more begin (Reaches (Message h true)) (refl, λ _. p) in
+        let sent : phase net ≡ LOST → ⊥ = λ e. omega (arith, p, e) in
+        let c = more begin (Reaches (Message h true)) (refl, sent) in
         pick-of Steps (destroyed fault)
-        (λ _. record { changes = _; path = turn (more begin (Reaches (Message h false)) (refl, λ _. p)) LOST 0 (lost net); says = λ g. refl; stored = n })
+        (λ _. record { changes = _; path = turn (more begin (Reaches (Message h false)) (refl, sent)) LOST 0 (lost net); says = λ g. refl; stored = n })
         (λ _. pick-of Steps (ltb (taker net) (rows net))
         (λ t. record {
           changes = _;
@@ -99,7 +100,7 @@ module _ (net : List ℕ) (s : shape net ≡ true) (b : Rams net) (fault : ℕ) 
   refused z j _ = rw z
 
   -- every step is a path of changes, each allowed from where the step began
-  pub step-by : By (Says net) net fault (step net fault)
+  pub step-by : By (Says net fault) net fault (step net fault)
   unfolding step
   step-by = pick-of Steps (eqb (stepNumber net fault) 0) turn-by (λ z. record { changes = _; path = begin; says = λ g. refl; stored = refused z })
 

@@ -57,7 +57,7 @@ module _ (net : List ℕ) (s : shape net ≡ true) (b : Rams net) where
 
   -- ---- "PASS": every other row hears the invitation
   invites : phase net ≡ PASS → Path net (Reaches (Message (holder net) true) ∷ []) (invitation net)
-  invites p = more begin (Reaches (Message (holder net) true)) (refl, λ _. p)
+  invites p = more begin (Reaches (Message (holder net) true)) (refl, λ e. omega (arith, p, e))
 
   pub record AfterTaker : Type 0 where
     pub answer : step net 0 .answer ≡ Passed (taker net)

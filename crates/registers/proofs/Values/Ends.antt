@@ -96,6 +96,10 @@ module _ (g : Regs) where
   unfolding received
   received-page = refl
 
+  pub received-long : received g .long ≡ g .long
+  unfolding received
+  received-long = refl
+
   -- an enquiry that no packet followed is heard of by its answer, or ends the transmit
   pub enquired-nak : enquired g true ≡ heard g false
   unfolding enquired

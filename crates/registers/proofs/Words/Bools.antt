@@ -88,3 +88,8 @@ holds l h = holds-after l true h .1
 pub pick-of : {A : Type 0} (P : A → Type 0) {x y : A} (b : Bool) → (b ≡ true → P x) → (b ≡ false → P y) → P (pick b x y)
 pick-of P true p q = p refl
 pick-of P false p q = q refl
+
+-- and of both pairs of choices, of the pair that is chosen
+pub pick-both : {A B : Type 0} (P : A → B → Type 0) {x y : A} {u v : B} (b : Bool) → P x u → P y v → P (pick b x y) (pick b u v)
+pick-both P true p q = p
+pick-both P false p q = q

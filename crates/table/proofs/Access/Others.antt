@@ -1,46 +1,135 @@
--- A call that names a row changes no other row, whatever network it is given.
+-- A call that names a row changes no other row, and of that row no byte but those that are its own, whatever network it is given.
 -- Assumes nothing.
-use mathlib.Core.Path.{_≡_, refl, sym, _∙_}
-use mathlib.Core.Bool.{true, false, false≢true}
-use mathlib.Core.List.{List}
+use mathlib.Core.Path.{_≡_, refl, sym, _∙_, ap}
+use mathlib.Core.Bool.{Bool, true, false, _&&_, false≢true}
+use mathlib.Core.List.{List, [], _∷_}
 use mathlib.Core.Logic.{⊎-elim}
-use Prim.Native.Nat.{ℕ, _<_}
+use Prim.Native.Nat.{ℕ, _+_, _≤_, _<_}
 use native.Mathlib.Omega.{arith}
 use lib.Dec.{eqb, ltb}
-use lib.ListN.{getD}
+use lib.ListN.{length, getD}
 use borrow.Author.Tests.{eqb-true, ne-eqb, ltb-true, ltb-false}
-use Rattle.registers.proofs.Words.Bools.{cases, pick-of}
-use Rattle.card.proofs.Rows.WellFormed.{length-read}
-use Rattle.table.specs.Network.{headerBytes, rows, rowAt, shape, OnlyRow}
-use Rattle.table.specs.Calls.{netReadNumber, netAfterRead, netAfterWrite, netAfterReset, netAfterTimer}
-use Rattle.table.proofs.Rows.Networks.{setRow-header}
+use Rattle.registers.specs.Words.{among}
+use Rattle.registers.specs.Fit.{onLine}
+use Rattle.registers.specs.Registers.{hardwareReset}
+use Rattle.registers.specs.Layout.{at-diagnostic, readChanges}
+use Rattle.registers.specs.Events.{burst}
+use Rattle.registers.proofs.Words.Bools.{cases, or-left, or-right, pick-of}
+use Rattle.registers.proofs.Values.SameCard.{reset-off}
+use Rattle.registers.proofs.Values.Keeps.{keeps-burst}
+use Rattle.card.specs.Row.{rowBytes, regsOf}
+use Rattle.card.specs.Access.{rowAfterRead, rowAfterWrite, rowAfterReset}
+use Rattle.card.specs.Moves.{OnlyAt, inRegisters, writeMoves}
+use Rattle.card.proofs.Rows.Bytes.{length-put, regs-put}
+use Rattle.card.proofs.Rows.WellFormed.{length-read, length-write}
+use Rattle.card.proofs.Rows.Moves.{only-stays, only-then, only-wider, only-put, only-read, only-write, only-registers}
+use Rattle.table.specs.Network.{headerBytes, rowStart, rows, LOST, turned, rowAt, setRow, onRegs, regsAt, onLineAt, shape, OnlyRow}
+use Rattle.table.specs.Calls.{placeNumber, netReadNumber, netAfterRead, isHolder, settled, netWriteNumber, netWriteMoves, netAfterWrite, netAfterReset, timerNumber, netAfterTimer}
+use Rattle.table.proofs.Rows.Networks.{length-setRow, rowAt-setRow, setRow-header, rowAt-turned}
 use Rattle.table.proofs.Shaped.Shapes.{shape-within, shape-row-length}
+use Rattle.table.proofs.Shaped.KeptRows.{regs-write}
 use Rattle.table.proofs.Access.Placed.{read-placed, write-placed, timer-placed, row-there}
 use Rattle.table.proofs.Access.Refused.{write-refused, reset-refused, timer-refused}
 use Rattle.table.proofs.Access.Beside.{Beside, read-beside, write-beside, reset-beside, timer-beside}
 
+-- ---- row k after a call, of a well-formed network that has it
+module _ (net : List ℕ) (s : shape net ≡ true) (k : ℕ) (l : k < rows net) where
+  abbrev row : List ℕ
+  row = rowAt net k
+
+  long : length row ≡ rowBytes
+  long = shape-row-length net s k l
+
+  inside : rowStart k + rowBytes ≤ length net
+  inside = shape-within net s k l
+
+  there : (r : List ℕ) → length r ≡ rowBytes → rowAt (setRow net k r) k ≡ r
+  there r e = rowAt-setRow net k r inside e
+
+  -- a burst sets MYRECON
+  only-burst : (r : List ℕ) → length r ≡ rowBytes → OnlyAt (among (at-diagnostic ∷ [])) r (onRegs burst r)
+  only-burst r e = only-put (at-diagnostic ∷ []) r _ (omega arith) (keeps-burst _ (regsOf r) refl)
+
+  -- a row that is given other bytes, and settles
+  module _ (r : List ℕ) (e : length r ≡ rowBytes) (moves : ℕ → Bool) (o : OnlyAt moves row r)
+      (bursts : onLineAt net k ≡ false → onLine (regsOf r) ≡ true → (i : ℕ) → moves i ≡ false → eqb i at-diagnostic ≡ false) where
+    abbrev new : List ℕ
+    new = setRow net k r
+
+    is : rowAt new k ≡ r
+    is = there r e
+
+    burst-row : rowAt (turned (setRow new k (onRegs burst (rowAt new k))) LOST 0) k ≡ onRegs burst r
+    burst-row =
+        rowAt-turned _ LOST 0 k
+        ∙ rowAt-setRow new k _ (omega (arith, length-setRow net k r inside e, inside)) (length-put (rowAt new k) _ ∙ rw is e) ∙ ap (onRegs burst) is
+
+    only-settled : OnlyAt moves row (rowAt (settled new k (onLineAt net k)) k)
+    unfolding settled onLineAt
+    only-settled =
+        let P : List ℕ → Type 0 = λ x. OnlyAt moves row (rowAt x k) in
+        pick-of P (onLine (regsAt new k))
+        (λ t. pick-of P (onLine (regsAt net k)) (λ _. rw is o)
+        (λ f. rw burst-row (only-then row r _ o (only-wider r _ (λ i m. rw (bursts f (rw is at t) i m)) (only-burst r e)))))
+        (λ _. pick-of P (onLine (regsAt net k) && isHolder new k) (λ _. rw (rowAt-turned new LOST 0 k, is) o) (λ _. rw is o))
+
+  -- ---- the calls
+  read-row : (g : ℕ) → OnlyAt (among (readChanges g)) row (rowAt (netAfterRead net k g) k)
+  unfolding netAfterRead
+  read-row g =
+      pick-of (λ (x : List ℕ). OnlyAt (among (readChanges g)) row (rowAt x k)) (eqb (netReadNumber net k g) 0)
+      (λ _. rw (there (rowAfterRead row g) (length-read row long g)) (only-read row long g)) (λ _. only-stays _ row)
+
+  write-row : (g v : ℕ) → OnlyAt (netWriteMoves net k g v) row (rowAt (netAfterWrite net k g v) k)
+  unfolding netAfterWrite
+  write-row g v =
+      pick-of (λ (x : List ℕ). OnlyAt (netWriteMoves net k g v) row (rowAt x k)) (eqb (netWriteNumber net k g v) 0)
+      (λ _. only-settled (rowAfterWrite row g v) (length-write row long g v) (netWriteMoves net k g v)
+      (only-wider row _ (λ i m. or-left (writeMoves row g i) _ m) (only-write row long g v))
+      (λ f t i m. rw (f, sym (ap onLine (regs-write row long g v)) ∙ t) at (or-right (writeMoves row g i) _ m)))
+      (λ _. only-stays _ row)
+
+  reset-row : OnlyAt inRegisters row (rowAt (netAfterReset net k) k)
+  unfolding netAfterReset
+  reset-row =
+      pick-of (λ (x : List ℕ). OnlyAt inRegisters row (rowAt x k)) (eqb (placeNumber net k) 0)
+      (λ _. only-settled (rowAfterReset row) (length-put row hardwareReset ∙ long) inRegisters (only-registers row long hardwareReset)
+      (λ f t i m. absurd (false≢true (sym (ap onLine (regs-put row hardwareReset (omega (arith, long))) ∙ reset-off) ∙ t))))
+      (λ _. only-stays _ row)
+
+  timer-row : OnlyAt (among (at-diagnostic ∷ [])) row (rowAt (netAfterTimer net k) k)
+  unfolding netAfterTimer
+  timer-row =
+      pick-of (λ (x : List ℕ). OnlyAt (among (at-diagnostic ∷ [])) row (rowAt x k)) (eqb (timerNumber net k) 0)
+      (λ _. rw (rowAt-turned (setRow net k (onRegs burst row)) LOST 0 k, there (onRegs burst row) (length-put row _ ∙ long)) (only-burst row long))
+      (λ _. only-stays _ row)
+
+-- ---- and all else, whatever network is given
 module _ (net : List ℕ) (k : ℕ) where
   -- a well-formed network with a row k
   abbrev There : Type 0
   There = (shape net ≡ true) × (k < rows net)
 
-  only-same : OnlyRow net net k
-  only-same = record { frame = record { size = refl; header = λ i h x y. refl }; others = λ j h n. refl }
+  only-same : (moves : ℕ → Bool) → OnlyRow net net k moves
+  only-same moves = record { frame = record { size = refl; header = λ i h x y. refl }; others = λ j h n. refl; row = only-stays moves (rowAt net k) }
 
-  only-there : {new : List ℕ} → (s : shape net ≡ true) → Beside net new k → OnlyRow net new k
-  only-there s b = record { frame = record { size = b .long; header = b .header }; others = λ j h n. b .others j n (shape-within net s j h) }
-
-  only-of : {new : List ℕ} → ((There → ⊥) → new ≡ net) → ((s : shape net ≡ true) → k < rows net → Beside net new k) → OnlyRow net new k
-  only-of {new} refused done =
-      let none : (There → ⊥) → OnlyRow net new k = λ n. rw (refused n) only-same in
-      ⊎-elim (λ (s : shape net ≡ true). ⊎-elim (λ (l : ltb k (rows net) ≡ true). only-there s (done s (ltb-true k (rows net) l)))
+  only-of : {new : List ℕ} (moves : ℕ → Bool) → ((There → ⊥) → new ≡ net)
+      → ((s : shape net ≡ true) → k < rows net → Beside net new k × OnlyAt moves (rowAt net k) (rowAt new k)) → OnlyRow net new k moves
+  only-of {new} moves refused done =
+      let none : (There → ⊥) → OnlyRow net new k moves = λ n. rw (refused n) (only-same moves) in
+      ⊎-elim (λ (s : shape net ≡ true). ⊎-elim (λ (l : ltb k (rows net) ≡ true). let b = done s (ltb-true k (rows net) l) in record {
+        frame = record { size = b .0 .long; header = b .0 .header };
+        others = λ j h n. b .0 .others j n (shape-within net s j h);
+        row = b .1;
+      })
       (λ (l : ltb k (rows net) ≡ false). none (λ t. omega (arith, t .1, ltb-false k (rows net) l))) (cases (ltb k (rows net))))
       (λ (s : shape net ≡ false). none (λ t. false≢true (sym s ∙ t .0))) (cases (shape net))
 
   -- ---- the calls
-  pub read-only : (g : ℕ) → OnlyRow net (netAfterRead net k g) k
+  pub read-only : (g : ℕ) → OnlyRow net (netAfterRead net k g) k (among (readChanges g))
   unfolding netAfterRead
-  read-only g = only-of (λ n. rw (ne-eqb (netReadNumber net k g) 0 (λ z. n (row-there net k (read-placed net k g z))))) (λ s l. read-beside net s k l g)
+  read-only g =
+      only-of _ (λ n. rw (ne-eqb (netReadNumber net k g) 0 (λ z. n (row-there net k (read-placed net k g z))))) (λ s l. (read-beside net s k l g, read-row net s k l g))
 
   -- which leaves phase and holder too
   pub read-header : (g i : ℕ) → i < headerBytes → getD (netAfterRead net k g) i 0 ≡ getD net i 0
@@ -50,12 +139,12 @@ module _ (net : List ℕ) (k : ℕ) where
       (λ z. let t = row-there net k (read-placed net k g (eqb-true _ _ z)) in
       setRow-header net k _ (shape-within net (t .0) k (t .1)) (length-read (rowAt net k) (shape-row-length net (t .0) k (t .1)) g) i h) (λ _. refl)
 
-  pub write-only : (g v : ℕ) → OnlyRow net (netAfterWrite net k g v) k
+  pub write-only : (g v : ℕ) → OnlyRow net (netAfterWrite net k g v) k (netWriteMoves net k g v)
   write-only g v =
-      only-of (λ n. write-refused net k g v (λ z. n (row-there net k (write-placed net k g v z)))) (λ s l. write-beside net s k l g v)
+      only-of _ (λ n. write-refused net k g v (λ z. n (row-there net k (write-placed net k g v z)))) (λ s l. (write-beside net s k l g v, write-row net s k l g v))
 
-  pub reset-only : OnlyRow net (netAfterReset net k) k
-  reset-only = only-of (λ n. reset-refused net k (λ z. n (row-there net k z))) (λ s l. reset-beside net s k l)
+  pub reset-only : OnlyRow net (netAfterReset net k) k inRegisters
+  reset-only = only-of _ (λ n. reset-refused net k (λ z. n (row-there net k z))) (λ s l. (reset-beside net s k l, reset-row net s k l))
 
-  pub timer-only : OnlyRow net (netAfterTimer net k) k
-  timer-only = only-of (λ n. timer-refused net k (λ z. n (row-there net k (timer-placed net k z)))) (λ s l. timer-beside net s k l)
+  pub timer-only : OnlyRow net (netAfterTimer net k) k (among (at-diagnostic ∷ []))
+  timer-only = only-of _ (λ n. timer-refused net k (λ z. n (row-there net k (timer-placed net k z)))) (λ s l. (timer-beside net s k l, timer-row net s k l))

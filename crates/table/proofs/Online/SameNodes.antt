@@ -1,6 +1,6 @@
 -- Two networks with the same nodes on line, and a network that became another with the token where it was.
 -- Assumes nothing.
-use mathlib.Core.Path.{_≡_, refl, _∙_}
+use mathlib.Core.Path.{_≡_, refl, _∙_, ap}
 use mathlib.Core.Bool.{true}
 use mathlib.Core.List.{List}
 use Prim.Native.Nat.{ℕ, _<_}
@@ -8,7 +8,8 @@ use native.Mathlib.Omega.{arith}
 use Rattle.card.specs.Row.{regsOf}
 use Rattle.registers.specs.Fit.{onLine}
 use Rattle.card.proofs.Pages.Packets.{Ram}
-use Rattle.table.specs.Network.{rows, phase, holder, regsAt, onLineAt, shape, SameNodes}
+use Rattle.table.specs.Network.{rows, phase, holder, regsAt, onLineAt, isNode, nodeOf, shape, SameNodes}
+use Rattle.table.proofs.Folds.{seek-same}
 use Rattle.table.proofs.Shaped.Kept.{Became}
 use Rattle.table.proofs.Shaped.Became.{Still, became-rows, became-phase, became-holder, still-moved}
 use Rattle.table.proofs.Shaped.Alike.{Rams, Alike, alike-moved}
@@ -22,6 +23,13 @@ same-nodes-then p q = record {
 
 pub alike-nodes : {net new : List ℕ} → Alike net new → SameNodes net new
 alike-nodes a = record { count = a .count; online = a .online; id = λ k l _. a .id k l }
+
+-- the same row is found for an ID
+pub alike-node-of : {net new : List ℕ} → Alike net new → (i x : ℕ) → nodeOf new i x (rows new) ≡ nodeOf net i x (rows net)
+unfolding nodeOf isNode
+alike-node-of {net} {new} a i x =
+    ap (λ (n : ℕ). nodeOf new i x n) (a .count)
+    ∙ seek-same _ _ (rows net) (λ k l. rw (a .online k l, a .id k l))
 
 -- ---- a call that left the token where it was: well formed, the same phase and holder, the same nodes on line, each with its NID
 pub record Calm (net new : List ℕ) : Type 0 where

@@ -1,0 +1,116 @@
+-- Which bytes of a row each change may move: other registers, the ID in a page, a packet in a page, and the register accesses.
+-- Assumes nothing.
+use mathlib.Core.Path.{_≡_, refl, sym, _∙_, ap}
+use mathlib.Core.Bool.{Bool, true, false, _&&_, _||_, false≢true}
+use mathlib.Core.Logic.{⊎-elim, inl, inr}
+use mathlib.Core.List.{List}
+use Prim.Native.Nat.{ℕ, _+_, _-_, _≤_, _<_}
+use native.Mathlib.Omega.{arith}
+use borrow.Author.Tests.{eqb-false, ltb-true, ltb-false, lt-ltb, le-leb, leb-false}
+use lib.Dec.{eqb, leb, ltb}
+use lib.ListN.{length, getD, set, length-set}
+use lib.Seq.{getD-set-other}
+use Rattle.registers.specs.declared.regs.Regs.{Regs}
+use Rattle.card.specs.declared.packets.Packet.{Packet}
+use Rattle.registers.specs.Words.{among}
+use Rattle.registers.specs.Layout.{at-id, at-long, readChanges, writeChanges}
+use Rattle.registers.proofs.Words.Bools.{cases, and-true, and-false, or-left, or-right, pick-of}
+use Rattle.registers.proofs.Values.Keeps.{Keeps, keeps-read, keeps-write}
+use Rattle.card.specs.Row.{rowBytes, regsOf, putRegs}
+use Rattle.card.specs.Access.{pointed, rowAfterRead, ramWritten, rowAfterWrite}
+use Rattle.card.specs.Packets.{dataAt, headBytes, pageBytes, pageAt, stored, stamped}
+use Rattle.card.specs.Moves.{OnlyAt, inRegisters, inPacket, writeMoves}
+use Rattle.card.proofs.Rows.Bytes.{regs-same, length-put, put-mark, put-rest, put-at, regs-at}
+use Rattle.card.proofs.Pages.Stored.{length-stored, stored-outside, stored-gap}
+use Rattle.card.proofs.Rows.Accesses.{length-ram}
+
+pub only-stays : (moves : ℕ → Bool) (r : List ℕ) → OnlyAt moves r r
+only-stays moves r = record { size = refl; same = λ i e. refl }
+
+pub only-then : {moves : ℕ → Bool} (r s t : List ℕ) → OnlyAt moves r s → OnlyAt moves s t → OnlyAt moves r t
+only-then r s t a b = record { size = b .size ∙ a .size; same = λ i e. b .same i e ∙ a .same i e }
+
+pub only-wider : {moves more : ℕ → Bool} (r s : List ℕ) → ((i : ℕ) → more i ≡ false → moves i ≡ false) → OnlyAt moves r s → OnlyAt more r s
+only-wider r s w a = record { size = a .size; same = λ i e. a .same i (w i e) }
+
+-- ---- other registers
+pub only-put : (l : List ℕ) (r : List ℕ) (g : Regs) → 16 ≤ length r → Keeps l (regsOf r) g → OnlyAt (among l) r (putRegs r g)
+only-put l r g h q = record {
+  size = length-put r g;
+  same = λ i e. ⊎-elim (λ (t : ltb i at-id ≡ true). put-mark r g i (ltb-true i at-id t))
+      (λ (t : ltb i at-id ≡ false). ⊎-elim (λ (u : ltb i 16 ≡ true). inside i e (ltb-false i at-id t) (ltb-true i 16 u))
+      (λ (u : ltb i 16 ≡ false). put-rest r g i (ltb-false i 16 u)) (cases (ltb i 16)))
+      (cases (ltb i at-id));
+}
+  where
+    inside : (i : ℕ) → among l i ≡ false → at-id ≤ i → i < 16 → getD (putRegs r g) i 0 ≡ getD r i 0
+    inside i e a b =
+        let k : i ≡ at-id + (i - at-id) = omega arith in
+        let x : i - at-id < 14 = omega arith in
+        rw k (put-at r g h (i - at-id) x ∙ q .kept (i - at-id) (rw k at e) ∙ regs-at r (i - at-id) x)
+
+-- ---- the RAM
+pub only-set : (r : List ℕ) (a v : ℕ) → OnlyAt (λ i. eqb i a) r (set r a v)
+only-set r a v = record { size = length-set r a v; same = λ i e. getD-set-other r a i v 0 (eqb-false i a e) }
+
+pub only-stamped : (r : List ℕ) (p : ℕ) → OnlyAt (λ i. eqb i (pageAt p)) r (stamped r p)
+unfolding stamped
+only-stamped r p = only-set r (pageAt p) (regsOf r .id)
+
+module _ (r : List ℕ) (p : ℕ) (k : Packet) (f : pageAt p + pageBytes (k .shape) ≤ length r) (l : 512 ≤ length (k .bytes)) (b : dataAt (k .shape) < 256) where
+  both-false : (a b : Bool) → (a && b) ≡ false → a ≡ true → b ≡ false
+  both-false true b e t = e
+  both-false false b e t = absurd (false≢true t)
+
+  and-swap : (a b : Bool) → (a && b) ≡ false → (b && a) ≡ false
+  and-swap true b e = and-true b ∙ e
+  and-swap false b e = and-false b
+
+  -- in the page, and not in head or data: the gap
+  kept-gap : (i : ℕ) → inPacket p (k .shape) i ≡ false → pageAt p ≤ i → i < pageAt p + pageBytes (k .shape) → getD (stored r p k) i 0 ≡ getD r i 0
+  kept-gap i e low high =
+      let from = leb (pageAt p) i in
+      let head = ltb i (pageAt p + headBytes (k .shape)) in
+      let past = leb (pageAt p + dataAt (k .shape)) i in
+      let to = ltb i (pageAt p + pageBytes (k .shape)) in
+      let u = or-left (from && head) (past && to) e in
+      let v = or-right (from && head) (past && to) e in
+      stored-gap r p k f l b i (ltb-false i _ (both-false from head u (le-leb (pageAt p) i low)))
+      (leb-false _ i (both-false to past (and-swap past to v) (lt-ltb i _ high)))
+
+  pub only-stored : OnlyAt (inPacket p (k .shape)) r (stored r p k)
+  only-stored = record {
+    size = length-stored r p k f l b;
+    same = λ i e. ⊎-elim (λ (t : ltb i (pageAt p) ≡ true). stored-outside r p k f l b i (inl (ltb-true i _ t)))
+        (λ (t : ltb i (pageAt p) ≡ false). ⊎-elim
+        (λ (u : ltb i (pageAt p + pageBytes (k .shape)) ≡ true). kept-gap i e (ltb-false i _ t) (ltb-true i _ u))
+        (λ (u : ltb i (pageAt p + pageBytes (k .shape)) ≡ false). stored-outside r p k f l b i (inr (ltb-false i _ u)))
+        (cases (ltb i (pageAt p + pageBytes (k .shape)))))
+        (cases (ltb i (pageAt p)));
+  }
+
+-- ---- the register accesses
+module _ (r : List ℕ) (l : length r ≡ rowBytes) where
+  pub only-read : (k : ℕ) → OnlyAt (among (readChanges k)) r (rowAfterRead r k)
+  unfolding rowAfterRead
+  only-read k = only-put (readChanges k) r _ (omega arith) (keeps-read (regsOf r) k)
+
+  -- a write of register 4 writes the RAM byte too
+  pub only-write : (k v : ℕ) → OnlyAt (writeMoves r k) r (rowAfterWrite r k v)
+  unfolding rowAfterWrite
+  only-write k v =
+      let m = ramWritten r k (pointed r) v in
+      let e : regsOf m ≡ regsOf r = pick-of (λ (x : List ℕ). regsOf x ≡ regsOf r) (eqb k 4) (λ _. regs-same r _ (λ j b. getD-set-other r (pointed r) j v 0 (λ x. omega arith))) (λ _. refl) in
+      only-then r m _
+      (pick-of (λ (x : List ℕ). OnlyAt (writeMoves r k) r x) (eqb k 4)
+      (λ t. only-wider r _ (λ i f. rw t at (or-right (among (writeChanges (regsOf r) k) i) _ f)) (only-set r (pointed r) v)) (λ _. only-stays _ r))
+      (only-wider m _ (λ i f. or-left _ (eqb k 4 && eqb i (pointed r)) f)
+      (only-put (writeChanges (regsOf r) k) m _ (omega (arith, length-ram r k (pointed r) v)) (rw e (keeps-write (regsOf r) k v))))
+
+  -- other registers, whatever they are
+  pub only-registers : (g : Regs) → OnlyAt inRegisters r (putRegs r g)
+  only-registers g = record {
+    size = length-put r g;
+    same = λ i e. ⊎-elim (λ (t : leb at-id i ≡ true). put-rest r g i (let u : leb i at-long ≡ false = rw t at e in omega (arith, leb-false i at-long u)))
+        (λ (t : leb at-id i ≡ false). put-mark r g i (leb-false at-id i t)) (cases (leb at-id i));
+  }
