@@ -1,17 +1,17 @@
--- Refused calls change nothing, no call changes another row, a fault that meets nothing does nothing, the sizes of packets, and no second outcome fits a contract.
+-- Refused calls change nothing, no other byte moves, a fault that meets nothing does nothing, the sizes of packets, and no second outcome fits a contract.
 -- Assumes nothing.
 use Rattle.table.proofs.Access.Refused.{read-refused, write-refused, reset-refused, timer-refused, interrupt-refused, data-refused, fresh-refused}
 use Rattle.line.proofs.Steps.Refused.{step-refused}
 use Rattle.table.proofs.Shaped.Alike.{bytes-rams}
 use Rattle.table.proofs.Access.Others.{read-only, read-header, write-only, reset-only, timer-only}
 use Rattle.line.proofs.Steps.StepBy.{frame-step}
-use Rattle.line.proofs.Promised.Bystanding.{fills, bystands}
-use Rattle.line.proofs.Promised.TheHolder.{sends, holder-left}
+use Rattle.line.proofs.Promised.EveryRow.{step-moves}
+use Rattle.line.proofs.Promised.TheHolder.{holder-left}
 use Rattle.line.proofs.Promised.Faults.{idle-fault}
 use Rattle.card.proofs.CardSums.{data-sizes}
 use Rattle.desk.proofs.Loads.Loaded.{load-refused}
 use Rattle.desk.proofs.Lapping.LapLeaves.{walk-refused, lap-refused}
-use Rattle.promises.specs.Promises.{RefusalsChangeNothing, NoOtherRow, OutcomesSay, IdleFaults, Sizes, OneOutcome}
+use Rattle.promises.specs.Promises.{RefusalsChangeNothing, NoOtherByte, OutcomesSay, IdleFaults, Sizes, OneOutcome}
 use Rattle.promises.proofs.Once.Registers.{registers-once}
 use Rattle.promises.proofs.Once.Card.{card-once}
 use Rattle.promises.proofs.Once.Table.{table-once}
@@ -34,20 +34,19 @@ refusals-change-nothing = record {
   lap = lap-refused;
 }
 
-pub no-other-row : NoOtherRow
-no-other-row = record {
+pub no-other-byte : NoOtherByte
+no-other-byte = record {
   read = read-only;
   read-header = read-header;
   write = write-only;
   reset = reset-only;
   timer = timer-only;
   step-frame = λ net b s. frame-step net s (bytes-rams net s b);
-  step-row = λ net b s fault j l n. let r = bytes-rams net s b in (fills net s r fault j l n, bystands net s r fault j l n);
-  step-holder = λ net b s p. sends net p s (bytes-rams net s b);
+  step-row = λ net b s. step-moves net s (bytes-rams net s b);
 }
 
 pub outcomes-say : OutcomesSay
-outcomes-say net b s p = holder-left net p s (bytes-rams net s b)
+outcomes-say net b s p = λ fault o. holder-left net p s (bytes-rams net s b) fault o
 
 pub idle-faults : IdleFaults
 idle-faults = idle-fault

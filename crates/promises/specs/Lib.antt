@@ -8,3 +8,4 @@ pub mod OfDesk
 pub mod OfWords
 pub mod Sums
 pub mod Promises
+pub mod Station

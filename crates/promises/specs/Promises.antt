@@ -2,18 +2,20 @@
 -- Assumes nothing.
 use mathlib.Core.Path.{_≡_}
 use mathlib.Core.Bool.{Bool, true, false}
-use mathlib.Core.List.{List, []}
+use mathlib.Core.List.{List, [], _∷_}
 use Prim.Native.Nat.{ℕ, _+_, _*_, _≤_, _<_}
 use lib.ListN.{length, getD}
+use Rattle.registers.specs.Words.{among}
+use Rattle.registers.specs.Layout.{at-diagnostic, readChanges}
 use Rattle.registers.specs.Numbers.{Smallest}
 use Rattle.card.specs.Packets.{shapeOf, dataBytes, CanBeSent, malformed}
-use Rattle.card.specs.Bystander.{Bystander, Storing, Sends}
+use Rattle.card.specs.Moves.{OnlyAt, inRegisters}
 use Rattle.line.specs.declared.traffic.Outcome.{Outcome}
 use Rattle.line.specs.declared.step.Answer.the-variants.{Held}
 use Rattle.table.specs.Network.{headerBytes, rows, phase, holder, Bytes, TAKEN, rowAt, regsAt, shape, SameFrame, OnlyRow, LOST, onLineAt}
-use Rattle.table.specs.Calls.{placeRefusals, placeNumber, netReadRefusals, netReading, netAfterRead, netWriteRefusals, netWriteNumber, netAfterWrite, netAfterReset, timerRefusals, timerNumber, netAfterTimer, netInterrupt, netData, netDataRefusals, netDataNumber, freshRefusals, freshNumber, netAfterFresh}
+use Rattle.table.specs.Calls.{placeRefusals, placeNumber, netReadRefusals, netReading, netAfterRead, netWriteRefusals, netWriteNumber, netWriteMoves, netAfterWrite, netAfterReset, timerRefusals, timerNumber, netAfterTimer, netInterrupt, netData, netDataRefusals, netDataNumber, freshRefusals, freshNumber, netAfterFresh}
 use Rattle.line.specs.Step.{stepRefusals, step, answerNumber, answerValue, highest}
-use Rattle.line.specs.Outcomes.{stores, HolderLeft, meets}
+use Rattle.line.specs.Outcomes.{stores, rowMoves, HolderLeft, meets}
 use Rattle.desk.specs.declared.laps.Taker.{Taker}
 use Rattle.desk.specs.Numbers.{ORDER}
 use Rattle.desk.specs.Order.{records, orderFits, idAt}
@@ -78,22 +80,18 @@ pub record TheLoading (order net : List ℕ) : Type 0 where
 abbrev pub LoadingGives : Type 0
 LoadingGives = (order net : List ℕ) → loadNumber order net ≡ 0 → TheLoading order net
 
--- ---- demand 2, "no other byte moves": a call that names a row changes, but for phase and holder, that row alone, and a read leaves these too. A step leaves
--- the length and, but for phase and holder, the header. A row that is not the holder in TAKEN stores the packet of the step or does not: one that does had RI 0
--- and has RI 1 and byte 14 zero, and behind its registers it keeps all that is outside the receive page; one that does not keeps all but status, diagnostic
--- status and NID. The holder in TAKEN keeps all behind the registers but byte 0 of the transmit page
-pub record NoOtherRow : Type 0 where
-  pub read : (net : List ℕ) (k g : ℕ) → OnlyRow net (netAfterRead net k g) k
+-- ---- demand 2, "no other byte moves". A call that names a row changes no other row and, but for phase and holder, nothing of the header, which a read leaves
+-- whole; of its row it may move those bytes alone that are named here. A step leaves the length and, but for phase and holder, the header; of each row it may move
+-- `rowMoves` alone. The page reader, its number and the interrupt can't change what they are lent; fresh and loading write every byte
+pub record NoOtherByte : Type 0 where
+  pub read : (net : List ℕ) (k g : ℕ) → OnlyRow net (netAfterRead net k g) k (among (readChanges g))
   pub read-header : (net : List ℕ) (k g i : ℕ) → i < headerBytes → getD (netAfterRead net k g) i 0 ≡ getD net i 0
-  pub write : (net : List ℕ) (k g v : ℕ) → OnlyRow net (netAfterWrite net k g v) k
-  pub reset : (net : List ℕ) (k : ℕ) → OnlyRow net (netAfterReset net k) k
-  pub timer : (net : List ℕ) (k : ℕ) → OnlyRow net (netAfterTimer net k) k
+  pub write : (net : List ℕ) (k g v : ℕ) → OnlyRow net (netAfterWrite net k g v) k (netWriteMoves net k g v)
+  pub reset : (net : List ℕ) (k : ℕ) → OnlyRow net (netAfterReset net k) k inRegisters
+  pub timer : (net : List ℕ) (k : ℕ) → OnlyRow net (netAfterTimer net k) k (among (at-diagnostic ∷ []))
   pub step-frame : (net : List ℕ) → Bytes net → shape net ≡ true → (fault : ℕ) → SameFrame net (step net fault .after)
-  pub step-row : (net : List ℕ) → Bytes net → shape net ≡ true → (fault j : ℕ) → j < rows net → (phase net ≡ TAKEN → j ≡ holder net → ⊥)
-      → (stores net fault j ≡ true → Storing (rowAt net j) (rowAt (step net fault .after) j))
-      × (stores net fault j ≡ false → Bystander (rowAt net j) (rowAt (step net fault .after) j))
-  pub step-holder : (net : List ℕ) → Bytes net → shape net ≡ true → phase net ≡ TAKEN → (fault : ℕ)
-      → Sends (rowAt net (holder net)) (rowAt (step net fault .after) (holder net))
+  pub step-row : (net : List ℕ) → Bytes net → shape net ≡ true → (fault j : ℕ) → j < rows net
+      → OnlyAt (rowMoves net (stores net fault j) j) (rowAt net j) (rowAt (step net fault .after) j)
 
 -- ---- the values that document 01 gives for each outcome: all the holder's registers after a step that answers Held, and so TA, TMA and byte 13
 abbrev pub OutcomesSay : Type 0

@@ -16,7 +16,7 @@ use Rattle.registers.specs.Registers.{interrupt}
 use Rattle.card.specs.Access.{valueRead, rowAfterRead}
 use Rattle.places.specs.Places.{onward}
 use Rattle.places.proofs.Places.{onward-onward}
-use Rattle.card.specs.Packets.{dataNumber, dataFrom, pageData}
+use Rattle.card.specs.Packets.{dataRefusals, dataNumber, dataFrom, pageData}
 use Rattle.registers.specs.Events.{burst}
 use Rattle.registers.proofs.Told.Smallest.{refuse-held, refuse-passed, refuse-stays, told-first, told-second, told-both, none-refuses}
 use Rattle.table.specs.declared.calls.Reading.{Reading}
@@ -52,6 +52,15 @@ module _ (net : List ℕ) (k : ℕ) (s : shape net ≡ true) (l : k < rows net) 
   pub row-placed : placeNumber net k ≡ 0
   unfolding placeNumber placeRefusals
   row-placed = rw (refuse-passed DONE SHAPE (not (shape net)) (ap not s), refuse-passed DONE ROW (leb (rows net) k) (lt-leb _ _ l))
+
+  -- the page reader then is the card's
+  pub data-there : (g : ℕ) → netData net k g ≡ pageData (rowAt net k) g
+  unfolding netData
+  data-there g = rw row-placed
+
+  pub number-there : (g : ℕ) → netDataNumber net k g ≡ dataNumber (rowAt net k) g
+  unfolding netDataNumber placeNumber
+  number-there g = told-second (placeRefusals net k) (dataRefusals (rowAt net k) g) row-placed
 
 -- the number n is that of the place: 0 where the row is there
 module _ (net : List ℕ) (k n : ℕ) (p : n ≡ placeNumber net k) where

@@ -1,0 +1,122 @@
+-- The right station: who stores a packet holds it, and nobody else's RAM moves; from the loaded order, it is the record that has the ID.
+-- Assumes nothing.
+use mathlib.Core.Path.{_≡_, refl, sym, _∙_, ap}
+use mathlib.Core.Bool.{Bool, true, false, _&&_, _||_, false≢true}
+use mathlib.Core.List.{List, [], _∷_}
+use Prim.Native.Nat.{ℕ, _≤_, _<_}
+use native.Mathlib.Omega.{arith}
+use lib.Dec.{eqb}
+use lib.ListN.{getD}
+use borrow.Author.Tests.{eqb-true, eqb-false, eq-eqb, ne-eqb}
+use Rattle.registers.specs.Words.{among}
+use Rattle.registers.specs.Layout.{at-status, at-diagnostic, at-nid, at-transmit, at-receive}
+use Rattle.registers.specs.Events.{receivePage}
+use Rattle.registers.proofs.Words.Bools.{pick-of}
+use Rattle.card.specs.Row.{registerBytes}
+use Rattle.card.specs.Packets.{pageAt}
+use Rattle.table.specs.Network.{Bytes, rows, phase, holder, LOST, PASS, TAKEN, rowAt, regsAt, onLineAt, isNode, shape, SameNodes}
+use Rattle.table.proofs.Folds.{clash, seek-is}
+use Rattle.table.proofs.Online.Nodes.{node-of, node-online, node-id, nodeOf-found}
+use Rattle.table.proofs.Shaped.Shapes.{shape-ids}
+use Rattle.table.proofs.Shaped.Alike.{bytes-rams}
+use Rattle.table.proofs.Access.Placed.{data-there, number-there}
+use Rattle.line.specs.declared.traffic.Outcome.the-variants.{Broadcast, Delivered}
+use Rattle.line.specs.declared.step.Answer.the-variants.{Held}
+use Rattle.line.specs.Step.{step}
+use Rattle.line.specs.Outcomes.{sentPage, sentTo, addressee, stores, rowMoves}
+use Rattle.line.proofs.Steps.Stepped.{held-row}
+use Rattle.line.proofs.Steps.StepBy.{sound-step}
+use Rattle.line.proofs.Promised.Bystanding.{fills}
+use Rattle.line.proofs.Promised.TheHolder.{packet-reached}
+use Rattle.line.proofs.Promised.EveryRow.{step-moves, held-taken, not-own-packet}
+use Rattle.desk.specs.Order.{records, idAt, nameAt}
+use Rattle.desk.proofs.Loads.Loaded.{loaded-rows, loaded-row}
+use Rattle.promises.specs.Station.{Stored, RamKept, StoredOrKept, RightStation, Deliveries, takesIt, Broadcasts, OfOrder, FromTheOrder}
+
+-- ---- no place of the RAM is among the register bytes
+beyond : (i a : ℕ) → registerBytes ≤ i → a < registerBytes → eqb i a ≡ false
+beyond i a h l = ne-eqb i a (λ e. omega (arith, e))
+
+module _ (net : List ℕ) (j i : ℕ) (h : registerBytes ≤ i) (own : j ≡ holder net → i ≡ pageAt (sentPage net) → ⊥) where
+  still : rowMoves net false j i ≡ false
+  still =
+      pick-of (λ (x : Bool). x ≡ false) (eqb (phase net) LOST) (λ _. rw (beyond i at-status h (omega arith), beyond i at-nid h (omega arith)))
+      (λ _. pick-of (λ (x : Bool). x ≡ false) (eqb (phase net) PASS) (λ _. rw (beyond i at-diagnostic h (omega arith), beyond i at-nid h (omega arith)) (none (eqb j (holder net))))
+      (λ _. pick-of (λ (x : Bool). x ≡ false) (eqb j (holder net))
+      (λ e. rw (beyond i at-status h (omega arith), beyond i at-diagnostic h (omega arith), beyond i at-transmit h (omega arith), beyond i at-receive h (omega arith))
+      (ne-eqb i (pageAt (sentPage net)) (own (eqb-true j (holder net) e))))
+      (λ _. rw (beyond i at-diagnostic h (omega arith)))))
+    where
+      none : (b : Bool) → (b && false) ≡ false
+      none true = refl
+      none false = refl
+
+module _ (net : List ℕ) (bytes : Bytes net) (s : shape net ≡ true) (fault : ℕ) where
+  abbrev new : List ℕ
+  new = step net fault .after
+
+  kept : (j : ℕ) → j < rows net → stores net fault j ≡ false → RamKept net new j
+  kept j l e i h own = step-moves net s (bytes-rams net s bytes) fault j l .same i (rw e (still net j i h own))
+
+  stored : (j : ℕ) → j < rows net → stores net fault j ≡ true → Stored net new j
+  stored j l e =
+      let b = bytes-rams net s bytes in
+      let a = sound-step net s b fault in
+      let f = fills net s b fault j l (λ p h. not-own-packet net s fault j h e) e in
+      let lj : j < rows new = omega (arith, a .count) in
+      record {
+        waited = f .waited;
+        filled = f .filled;
+        ended = f .ended;
+        holds = f .holds;
+        reads = data-there new j (a .fits) lj _ ∙ f .holds .bytes ∙ sym (data-there net (holder net) s (held-row net s) _);
+        number = number-there new j (a .fits) lj _ ∙ f .holds .readable;
+      }
+
+pub stored-or-kept : StoredOrKept
+stored-or-kept net bytes s fault j l = (stored net bytes s fault j l, kept net bytes s fault j l)
+
+pub deliveries : Deliveries
+deliveries net bytes s fault e =
+    let b = bytes-rams net s bytes in
+    let r = packet-reached net (held-taken net s fault Delivered e) s b fault Delivered e in
+    let to = addressee net in
+    let n : (sentTo net ≡ 0 → ⊥) = r .0 in
+    let found = nodeOf-found net (sentTo net) (holder net) (rows net) in
+    let f : (isNode net (sentTo net) to ≡ true) × (to ≡ holder net → ⊥) = rw (ne-eqb (sentTo net) 0 n) (found (rw (ne-eqb (sentTo net) 0 n) at (r .1 .0))) in
+    record {
+      there = r .1 .0;
+      carries = f .0;
+      alone = λ j l c. shape-ids net s j to l (r .1 .0) (node-online net j _ c) (node-online net to _ (f .0)) (node-id net j _ c ∙ sym (node-id net to _ (f .0)));
+      away = f .1;
+      stored = stored net bytes s fault to (r .1 .0) (r .1 .1 to ∙ eq-eqb to to refl);
+      others = λ j l d. kept net bytes s fault j l (r .1 .1 j ∙ ne-eqb j to d);
+    }
+
+pub broadcasts : Broadcasts
+broadcasts net bytes s fault e j l =
+    let b = bytes-rams net s bytes in
+    let r = packet-reached net (held-taken net s fault Broadcast e) s b fault Broadcast e j l in
+    (λ t. stored net bytes s fault j l (r ∙ t), λ t. kept net bytes s fault j l (r ∙ t))
+
+pub from-the-order : FromTheOrder
+from-the-order order lent net z same bytes s fault e =
+    let d = deliveries net bytes s fault e in
+    let to = addressee net in
+    let count : rows net ≡ records order = same .count ∙ loaded-rows order lent z in
+    -- row k has record k's ID
+    let has : (k : ℕ) → k < records order → (onLineAt net k ≡ true) × (regsAt net k .id ≡ idAt order k)
+    = λ k l. let g = loaded-row order lent z k l in
+    let i = loaded-rows order lent z in
+    (same .online k (omega (arith, i)) ∙ g .0, same .id k (omega (arith, i)) (g .0) ∙ g .1) in
+    let there : to < records order = omega (arith, d .there, count) in
+    let id : idAt order to ≡ sentTo net = sym (has to there .1) ∙ node-id net to _ (d .carries) in
+    let alone : (j : ℕ) → j < records order → idAt order j ≡ sentTo net → j ≡ to
+    = λ j l i. d .alone j (omega (arith, count)) (node-of net j (sentTo net) (has j l .0) (has j l .1 ∙ i)) in
+    record {
+      there = there;
+      has = id;
+      alone = alone;
+      named = ap (nameAt order) (seek-is (λ k. eqb (idAt order k) (sentTo net)) (records order) to there (eq-eqb _ _ id)
+          (λ j l. ne-eqb _ _ (λ i. omega (arith, alone j (omega arith) i))));
+    }
