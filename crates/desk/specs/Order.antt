@@ -78,7 +78,7 @@ unfoldable pub trimmed : List ℕ → List ℕ
 trimmed [] = []
 trimmed (x ∷ l) = pick (spaces (x ∷ l)) [] (x ∷ trimmed l)
 
--- where in the order the name of record k starts: after "mark .., node ID .., flags"
+-- "mark 4F 52, node ID 1-255, flags (..), name of 12 bytes": where in the order the name of record k starts
 abbrev pub nameFrom : ℕ → ℕ
 nameFrom k = recordBytes * k + 4
 

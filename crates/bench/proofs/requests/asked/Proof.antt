@@ -18,7 +18,7 @@ unfolding asked
 returns-3 c =
     let w = c .before .before in
     let s = w .before .before in
-    rw (s .before .if1 .left, ← s .spaced .ensures, w .before .if2 .left, ← w .word .ensures, ← c .before .form-of .ensures) (c .asked-of .ensures)
+    rw (s .before .if1 .left, ← s .spaced .ensures, w .before .if2 .left, ← w .word .ensures .0, ← c .before .form-of .ensures) (c .asked-of .ensures)
 
 pub asked-spec : {M : Type 1} → statement M
 asked-spec = tie.close (tie.spec returns (λ c κs. search needs) returns-2 (λ c κs. search needs) (λ c κs. search needs) (λ c κs. search needs) returns-3)

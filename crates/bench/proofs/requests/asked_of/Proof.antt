@@ -28,7 +28,7 @@ returns-4 c =
     let a = i .before .before .before .before in
     let n = a .before .before .before .before .before .before in
     asked-hex _ _ (n .before .if1 .left) _ (n .count .ensures) (a .before .before .before .if2 .left) _ _ _ (a .before .before .argument .ensures) (a .before .argument2 .ensures)
-    (a .argument3 .ensures) (i .if3 .left) _ (c .before .hex-fits .ensures ∙ ap hexFits (c .before .before .word .ensures)) (c .if4 .taken)
+    (a .argument3 .ensures) (i .if3 .left) _ (c .before .hex-fits .ensures ∙ ap hexFits (c .before .before .word .ensures .0)) (c .if4 .taken)
 
 returns-5 : tie.Need-returns-5
 returns-5 c =
@@ -37,7 +37,7 @@ returns-5 c =
     let a = i .before .before .before .before in
     let n = a .before .before .before .before .before .before in
     asked-made _ _ (n .before .if1 .left) _ (n .count .ensures) (a .before .before .before .if2 .left) _ _ _ (a .before .before .argument .ensures) (a .before .argument2 .ensures)
-    (a .argument3 .ensures) (i .if3 .left) _ (h .hex-fits .ensures ∙ ap hexFits (h .before .word .ensures)) (c .before .if4 .left) _ (c .made .ensures)
+    (a .argument3 .ensures) (i .if3 .left) _ (h .hex-fits .ensures ∙ ap hexFits (h .before .word .ensures .0)) (c .before .if4 .left) _ (c .made .ensures)
 
 pub asked-of-spec : {M : Type 1} → statement M
 asked-of-spec =

@@ -9,7 +9,7 @@ returns : tie.Need-returns
 unfolding formOf
 returns c =
     let r = c .before .before .before .before in
-    rw (c .number-at4 .ensures, c .before .number-at3 .ensures, c .before .before .number-at2 .ensures, c .before .before .before .number-at .ensures, r .row .ensures)
+    rw (c .number-at4 .ensures, c .before .number-at3 .ensures, c .before .before .number-at2 .ensures, c .before .before .before .number-at .ensures, r .row .ensures .0)
 
 pub form-of-spec : {M : Type 1} → statement M
 form-of-spec =

@@ -11,13 +11,13 @@ use Rattle.bench.proofs.turns.on_bytes.Statement.{statement}
 use Rattle.bench.proofs.turns.on_bytes.Tie as tie
 
 load-requires : tie.Need-load-requires
-load-requires c κs = omega (arith, part-length 32 (c .before .before .before .before .before .args .line .now) 1, ap length (c .word2 .ensures))
+load-requires c κs = omega (arith, part-length 32 (c .before .before .before .before .before .args .line .now) 1, ap length (c .word2 .ensures .0))
 
 returns : tie.Need-returns
 unfolding netAfterBytes
 returns c =
     let r = c .before .before in
-    rw (r .before .before .before .match .keys1, ← r .before .word .ensures) (r .poke .ensures)
+    rw (r .before .before .before .match .keys1, ← r .before .word .ensures .0) (r .poke .ensures)
 
 returns-2 : tie.Need-returns-2
 unfolding netAfterBytes
@@ -28,7 +28,7 @@ unfolding netAfterBytes
 returns-3 c =
     let r = c .before .before .before in
     let m = r .before .before .before .match .rest in
-    rw (ne-eqb _ _ (m .0 .1), ne-eqb _ _ (m .1), ← r .before .word2 .ensures) (r .load .ensures .1)
+    rw (ne-eqb _ _ (m .0 .1), ne-eqb _ _ (m .1), ← r .before .word2 .ensures .0) (r .load .ensures .1)
 
 pub on-bytes-spec : {M : Type 1} → statement M
 on-bytes-spec =
