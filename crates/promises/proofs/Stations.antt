@@ -118,5 +118,5 @@ from-the-order order lent net z same bytes s fault e =
       has = id;
       alone = alone;
       named = ap (nameAt order) (seek-is (λ k. eqb (idAt order k) (sentTo net)) (records order) to there (eq-eqb _ _ id)
-          (λ j l. ne-eqb _ _ (λ i. omega (arith, alone j (omega arith) i))));
+          (λ j l. ne-eqb (idAt order j) (sentTo net) (λ (i : idAt order j ≡ sentTo net). omega (arith, alone j (omega (arith, l, there)) i))));
     }

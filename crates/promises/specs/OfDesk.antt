@@ -12,5 +12,6 @@ pub record OfDesk : Type 0 where
   pub records : Once orders.records.ended orders.records.Reads.Asked orders.records.Reads.Learnt
   pub name-at : OnceBy orders.name_at.ended (λ κs. SamePart) orders.name_at.Reads.Asked orders.name_at.Reads.Learnt
   pub load : Once loading.load.ended loading.load.Reads.Asked loading.load.Reads.Learnt
+  pub nobody : Once laps.nobody.ended laps.nobody.Reads.Asked laps.nobody.Reads.Learnt
   pub walk : OnceBy laps.walk.ended (λ κs x x′. laps.walk.Kinds.r .is .Ok κs x → laps.walk.Kinds.r .is .Ok κs x′ → x ≡ x′) laps.walk.Reads.Asked laps.walk.Reads.Learnt
   pub lap : Once laps.lap.ended lap.Asked lap.Learnt

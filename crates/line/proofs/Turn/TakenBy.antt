@@ -266,8 +266,7 @@ module _ (net : List ℕ) (s : shape net ≡ true) (b : Rams net) (fault : ℕ) 
             let i : addressee net ≡ to = rw d (sym same-to) in
             let x : regsAt m to ≡ regsAt net to = ap regsOf (own-there net h s low Cancels to (omega (arith, now .count)) (nodeOf-found m did h (rows m) l .1)) in
             let u = and-left (not (damaged fault) && storable (regsAt m to) form) (not (ackLost fault)) a in
-            let v : storable (regsAt net to) (sentShape net) ≡ true = rw (x, same-form) at (and-right (not (damaged fault)) (storable (regsAt m to) form) u) in
-            (
+            let v : storable (regsAt net to) (sentShape net) ≡ true = rw (x, same-form) at (and-right (not (damaged fault)) (storable (regsAt m to) form) u) in (
               eqb-false (sentTo net) 0 d,
               (
                 rw i (omega (arith, now .count)),

@@ -12,14 +12,15 @@ desk-once = record {
   records = (λ _ _. tt, λ _ _ _ _ _ _. told refl);
   name-at = (λ _ _. tt, λ _ _ x x′ _ _. part x x′ refl (name-there _ _));
   load = (λ _ _. tt, λ _ _ _ _ _ _. both-right refl);
+  nobody = (λ _ _. tt, λ _ _ _ _ _ _. told refl);
   walk = (
     λ κs a. tt,
     λ κs a x x′ w w′ p q. (
       λ o o′.
-          let e = only-walk _ _ _ _ _ _ _ _ _ _ (sixty κs x o) (sixty κs x′ o′) p q in
+          let e = only-walk _ _ _ _ _ _ _ _ _ _ (sixty κs x o) (sixty κs x′ o′) (p .0) (q .0) in
           λ i. record { lapped = e .1 .1 .0 i; n = e .0 i; list = e .1 .0 i },
-      λ i. ((p .5 ∙ sym (q .5)) i, (tt, tt)),
+      λ i. ((p .0 .5 ∙ sym (q .0 .5)) i, (tt, tt)),
     ),
   );
-  lap = (λ _ _. tt, λ κs a x x′ w w′ p q. (p .0 ∙ sym (q .0), λ i. ((p .1 ∙ sym (q .1)) i, ((p .2 ∙ sym (q .2)) i, tt))));
+  lap = (λ _ _. tt, λ κs a x x′ w w′ p q. (p .0 .0 ∙ sym (q .0 .0), λ i. ((p .0 .1 ∙ sym (q .0 .1)) i, ((p .0 .2 ∙ sym (q .0 .2)) i, tt))));
 }
