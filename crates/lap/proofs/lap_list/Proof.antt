@@ -2,7 +2,7 @@
 -- and is back at the last list that `lap` says. `nobody` and `lap` are known by their contracts alone.
 -- Assumes nothing.
 use mathlib.Core.Path.{_≡_, refl, _∙_, ap, subst}
-use Prim.Native.Nat.{ℕ}
+use Prim.Native.Nat.{ℕ, _+_}
 use mathlib.Core.List.{[], _∷_, List}
 use lib.ListN.{length}
 use lib.Dec.{lit<}
@@ -16,7 +16,7 @@ use prog.Memory.{Memory}
 use prog.Routine.{Routine}
 use prog.Wp.{Heap, Calls, Loops, WpFn, Tables}
 use ghost.Atoms.{Atoms}
-use contract.Monad.{Fun}
+use contract.Monad.{fact, Fun}
 use contract.Running.{givenOf, tables, tablesOf}
 use types.Kit.{Given, Item, ‵, raw, given, _⊛_, ⋆, some, later, _$_, _∵_, !, qed, by, move}
 use types.Kit.{keep, drop, use0, use1, use3, split, join, pick, learn, group, rewrite, fsplit, fjoin, feqL, suffices, frame, await, done}
@@ -44,7 +44,7 @@ use denote.Triple.Statement.{Contract, Triple}
 use denote.Triple.Call.{calls-at}
 use denote.Triple.Table.{entered, cited}
 use denote.Triple.Walked.{says, Stays, gave-slice, walkOf, goes-gave-slice, ends-at, walked, walk-meets}
-use Rattle.desk.specs.Lap.{lapped, netAfterLap, listAfterLap, nobody as Nobody}
+use Rattle.desk.specs.Lap.{nodes, lapped, netAfterLap, listAfterLap, nobody as Nobody}
 use Rattle.desk.specs.declared.laps.Taker.{Taker}
 use Rattle.desk.specs.declared.laps.Lapped.{Lapped}
 use Rattle.lap.specs.declared.Listed.{Listed}
@@ -127,6 +127,9 @@ module _ {M : Type 1} (𝓤 : URA M) (H : Heap 𝓤) (A : Atoms 𝓤) (W : Given
   abbrev Said : Lapped → List ℕ → List Taker → Type 0
   Said d ns zs = (d ≡ lapped ys 60) × (ns ≡ netAfterLap ys 60) × (zs ≡ listAfterLap ys Nobody)
 
+  abbrev Total : Lapped → Type 0
+  Total d = d .number ≡ 0 → d .total ≡ 256 + nodes ys
+
   -- ---- the exit: the answer d, whose machine value is w, and the last list zs are handed back
   module _ (d : Lapped) (w : Val) (zs : List Taker) where
     abbrev back : Listed
@@ -181,7 +184,8 @@ module _ {M : Type 1} (𝓤 : URA M) (H : Heap 𝓤) (A : Atoms 𝓤) (W : Given
         use1 W (raw (Lap 𝓤 H A at-mem run .pre (to-lap l₂ ν δ))) (goes-lap l₂ ν δ) $
         calls-at ! fm (Lap 𝓤 H A at-mem run) known-lap (to-lap l₂ ν δ) (and-then ! (var ! 8 refl) (and-then ! (var ! 4 refl) (no-more !))) (λ w.
         answers 𝓤 H A lap.ended (lap.clauses 𝓤 H A at-mem run) (κ, (ν ∷ [], tt)) (q, (fullShare, tt)) (x, (x′ l₂ ν δ, tt)) tt w W ! tt (λ d zs.
-        heard ! (Said d (zs .0) (zs .1 .0)) (λ e. fsplit ! $ fsplit ! $ move ! (1 ∷ []) $ feqL ! (λ l.
+        use1 W (raw (fact 𝓤 (Said d (zs .0) (zs .1 .0))) ⊛ raw (fact 𝓤 (Total d))) (id⊢ 𝓤 _) $ split ! $
+        heard ! (Said d (zs .0) (zs .1 .0)) (λ e. heard ! (Total d) (λ t. fsplit ! $ fsplit ! $ move ! (1 ∷ []) $ feqL ! (λ l.
         move ! (1 ∷ []) $ fsplit ! $ fsplit ! $ move ! (1 ∷ []) $ feqL ! (λ l′. move ! (3 ∷ []) $
         peeks ! D.the-row (Is D.the-row) (shows 𝓤 H A D.the-row) d (w ∷ []) (λ is-d.
         land ! (from ! (stop !)) (init ! 18 refl (LL.lawful D.the-type D′.the-laws 𝓤 H A W .typed d _ is-d .0)) $ drop ! $
@@ -200,7 +204,7 @@ module _ {M : Type 1} (𝓤 : URA M) (H : Heap 𝓤) (A : Atoms 𝓤) (W : Given
         returns ! (look ! 22 refl) $ move ! (0 ∷ 19 ∷ []) $
         ends ! 22 refl refl $ ends ! 20 refl refl $ ends ! 0 refl refl $ ends ! 16 refl refl $ ends ! 14 refl refl $ ends ! 12 refl refl $
         ends ! 10 refl refl $ ends ! 8 refl refl $ ends ! 6 refl refl $ free0 ! $ keep ! (1 ∷ 3 ∷ []) $
-        by ! (exits d w (zs .1 .0) (zs .0) e l is-b)))))))))))))))))))))))
+        by ! (exits d w (zs .1 .0) (zs .0) e l is-b))))))))))))))))))))))))
 
 module _ {M : Type 1} (𝓤 : URA M) (H : Heap 𝓤) (A : Atoms 𝓤) (W : Given 𝓤 H A) (at-mem : Memory → SProp 𝓤) (run : Routine → Fun 𝓤) (𝓣 : Tables 𝓤 H)
     (known-blank : Triple 𝓤 (𝓣 .C #nobody) (Blank 𝓤 H A at-mem run)) (known-lap : Triple 𝓤 (𝓣 .C #lap) (Lap 𝓤 H A at-mem run)) where
