@@ -5,4 +5,5 @@ pub mod Stored
 pub mod Carried
 pub mod Waiting
 pub mod Refused
+pub mod Same
 pub mod Sent

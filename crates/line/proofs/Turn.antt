@@ -3,4 +3,6 @@ pub mod Sends
 pub mod Outcomes
 pub mod Tries
 pub mod Turns
+pub mod Readied
+pub mod Storing
 pub mod TakenBy

@@ -1,27 +1,24 @@
 -- The right station: who stores a packet holds it, and nobody else's RAM moves; from the loaded order, it is the record that has the ID.
 -- Assumes nothing.
 use mathlib.Core.Path.{_≡_, refl, sym, _∙_, ap}
-use mathlib.Core.Bool.{Bool, true, false, _&&_, _||_, false≢true}
-use mathlib.Core.List.{List, [], _∷_}
+use mathlib.Core.Bool.{Bool, true, false, _&&_}
+use mathlib.Core.List.{List}
 use Prim.Native.Nat.{ℕ, _≤_, _<_}
 use native.Mathlib.Omega.{arith}
 use lib.Dec.{eqb}
-use lib.ListN.{getD}
-use borrow.Author.Tests.{eqb-true, eqb-false, eq-eqb, ne-eqb}
+use borrow.Author.Tests.{eqb-true, eq-eqb, ne-eqb}
 use Rattle.registers.specs.Words.{among}
 use Rattle.registers.specs.Layout.{at-status, at-diagnostic, at-nid, at-transmit, at-receive}
-use Rattle.registers.specs.Events.{receivePage}
 use Rattle.registers.proofs.Words.Bools.{pick-of}
 use Rattle.card.specs.Row.{registerBytes}
 use Rattle.card.specs.Packets.{pageAt}
-use Rattle.table.specs.Network.{Bytes, rows, phase, holder, LOST, PASS, TAKEN, rowAt, regsAt, onLineAt, isNode, shape, SameNodes}
-use Rattle.table.proofs.Folds.{clash, seek-is}
+use Rattle.table.specs.Network.{Bytes, rows, phase, holder, LOST, PASS, regsAt, onLineAt, isNode, shape}
+use Rattle.table.proofs.Folds.{seek-is}
 use Rattle.table.proofs.Online.Nodes.{node-of, node-online, node-id, nodeOf-found}
 use Rattle.table.proofs.Shaped.Shapes.{shape-ids}
 use Rattle.table.proofs.Shaped.Alike.{bytes-rams}
 use Rattle.table.proofs.Access.Placed.{data-there, number-there}
 use Rattle.line.specs.declared.traffic.Outcome.the-variants.{Broadcast, Delivered}
-use Rattle.line.specs.declared.step.Answer.the-variants.{Held}
 use Rattle.line.specs.Step.{step}
 use Rattle.line.specs.Outcomes.{sentPage, sentTo, addressee, stores, rowMoves}
 use Rattle.line.proofs.Steps.Stepped.{held-row}
@@ -31,7 +28,7 @@ use Rattle.line.proofs.Promised.TheHolder.{packet-reached}
 use Rattle.line.proofs.Promised.EveryRow.{step-moves, held-taken, not-own-packet}
 use Rattle.desk.specs.Order.{records, idAt, nameAt}
 use Rattle.desk.proofs.Loads.Loaded.{loaded-rows, loaded-row}
-use Rattle.promises.specs.Station.{Stored, RamKept, StoredOrKept, RightStation, Deliveries, takesIt, Broadcasts, OfOrder, FromTheOrder}
+use Rattle.promises.specs.Station.{Stored, RamKept, StoredOrKept, Deliveries, Broadcasts, FromTheOrder}
 
 -- ---- no place of the RAM is among the register bytes
 beyond : (i a : ℕ) → registerBytes ≤ i → a < registerBytes → eqb i a ≡ false

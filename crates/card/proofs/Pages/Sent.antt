@@ -1,15 +1,14 @@
 -- A packet that one card's page sent and another card's page stored is read back there.
 -- Assumes nothing.
-use mathlib.Core.Path.{_≡_, refl, sym, _∙_, ap}
-use mathlib.Core.Bool.{Bool, true, false, _&&_, _||_, false≢true, true≢false}
+use mathlib.Core.Path.{_≡_, refl, sym, _∙_}
+use mathlib.Core.Bool.{Bool, true, false, _&&_, true≢false}
 use mathlib.Core.List.{List}
 use Prim.Native.Nat.{ℕ, _+_, _≤_, _<_}
 use native.Mathlib.Omega.{arith}
 use borrow.Author.Tests.{le-ltb, leb-true}
-use lib.Dec.{eqb, leb, ltb}
-use lib.ListN.{length, getD, take, drop, length-drop, List·getD-append}
+use lib.Dec.{eqb, leb}
+use lib.ListN.{length, getD, take, drop, List·getD-append}
 use lib.Seq.{ext-getD, getD-take, getD-drop, getD-set-same, getD-set-other}
-use Rattle.registers.specs.declared.regs.Regs.{Regs}
 use Rattle.card.specs.declared.packets.Shape.{Shape}
 use Rattle.card.specs.declared.packets.Shape.the-variants.{Malformed, Short, Long}
 use Rattle.card.specs.declared.packets.Packet.{Packet}
@@ -18,52 +17,21 @@ use Rattle.registers.specs.Numbers.{DONE, VALUE}
 use Rattle.registers.proofs.Words.Bools.{and-right, pick-of}
 use Rattle.registers.proofs.Told.Smallest.{refuse-passed}
 use Rattle.card.specs.Row.{rowBytes, regsOf}
-use Rattle.card.specs.Packets.{shapeOf, dataBytes, dataAt, headBytes, pageBytes, pageAt, malformed, pageShape, destination, dataRefusals, dataNumber, pageData, packetAt, dataOf, stored, stamped}
+use Rattle.card.specs.Packets.{shapeOf, dataBytes, dataAt, pageBytes, pageAt, malformed, pageShape, destination, dataRefusals, pageData, packetAt, dataOf, stored, stamped}
 use Rattle.card.specs.Moves.{Holds}
 use Rattle.card.proofs.Words.Laid.{length-part}
 use Rattle.card.proofs.Pages.Sizes.{data-end, head-least, page-most, page-fits}
+use Rattle.card.proofs.Pages.Same.{shape-same}
 use Rattle.card.proofs.Pages.Stored.{stored-head, reads-back, length-stamped}
 use Rattle.card.proofs.Rows.WellFormed.{regs-stamped}
 
--- ---- a page of two rows with the same RAM and the same long packets
-module _ (r s : List ℕ) (size : length s ≡ length r) (long : regsOf s .long ≡ regsOf r .long) (ram : (i : ℕ) → 16 ≤ i → getD s i 0 ≡ getD r i 0) (p : ℕ) where
-  pub shape-same : pageShape s p ≡ pageShape r p
-  unfolding pageShape
-  shape-same = rw (long, ram (pageAt p + 2) (omega arith), ram (pageAt p + 3) (omega arith))
-
-  from-same : (a : ℕ) → 16 ≤ a → drop a s ≡ drop a r
-  from-same a h =
-      ext-getD 0 (drop a s) (drop a r) (rw (length-drop a s, length-drop a r, size)) (λ i _. getD-drop a s i 0 ∙ ram (a + i) (omega arith) ∙ sym (getD-drop a r i 0))
-
-  data-same : pageData s p ≡ pageData r p
-  unfolding pageData
-  data-same = rw (shape-same, from-same (pageAt p + dataAt (pageShape r p)) (omega arith))
-
-  number-same : dataNumber s p ≡ dataNumber r p
-  unfolding dataRefusals
-  number-same = rw shape-same
-
-  pub did-same : destination s p ≡ destination r p
-  unfolding destination
-  did-same = ram (pageAt p + 1) (omega arith)
-
--- a page that holds what was sent does so while its row's RAM and its long packets stay
-pub holds-same : (r : List ℕ) (p : ℕ) (s t : List ℕ) (q : ℕ) → length t ≡ length s → regsOf t .long ≡ regsOf s .long → ((i : ℕ) → 16 ≤ i → getD t i 0 ≡ getD s i 0)
-    → Holds r p s q → Holds r p t q
-holds-same r p s t q size long ram h = record {
-  readable = number-same s t size long ram q ∙ h .readable;
-  bytes = data-same s t size long ram q ∙ h .bytes;
-  sid = ram (pageAt q) (omega arith) ∙ h .sid;
-  did = did-same s t size long ram q ∙ h .did;
-}
-
 -- ---- a page that is stamped
-pub stamped-other : (r : List ℕ) (p i : ℕ) → (i ≡ pageAt p → ⊥) → getD (stamped r p) i 0 ≡ getD r i 0
+stamped-other : (r : List ℕ) (p i : ℕ) → (i ≡ pageAt p → ⊥) → getD (stamped r p) i 0 ≡ getD r i 0
 unfolding stamped
 stamped-other r p i n = getD-set-other r (pageAt p) i (regsOf r .id) 0 (λ e. n e)
 
 -- its packet has the shape that the page had: COUNT stands past the byte that is written
-pub stamped-shape : (r : List ℕ) → length r ≡ rowBytes → (p : ℕ) → packetAt (stamped r p) p .shape ≡ pageShape r p
+stamped-shape : (r : List ℕ) → length r ≡ rowBytes → (p : ℕ) → packetAt (stamped r p) p .shape ≡ pageShape r p
 unfolding packetAt pageShape
 stamped-shape r l p =
     rw (stamped-other r p (pageAt p + 2) (λ e. omega arith), stamped-other r p (pageAt p + 3) (λ e. omega arith), regs-stamped r l p)

@@ -23,7 +23,8 @@ use Rattle.registers.proofs.Values.Listens.{Wakes, wakes-same, wakes-then, rece
 use Rattle.card.proofs.Rows.Bytes.{length-put, put-rest, regs-put}
 use Rattle.card.proofs.Pages.Stored.{length-stored}
 use Rattle.card.proofs.Pages.Waiting.{receive-room}
-use Rattle.card.proofs.Pages.Sent.{holds-same, SentFrom, holds-stored}
+use Rattle.card.proofs.Pages.Same.{holds-same}
+use Rattle.card.proofs.Pages.Sent.{SentFrom, holds-stored}
 
 -- what a card can store
 module _ (g h : Regs) (b : Wakes g h) where

@@ -1,7 +1,7 @@
 -- Which bytes of a row each change may move: other registers, the ID in a page, a packet in a page, and the register accesses.
 -- Assumes nothing.
-use mathlib.Core.Path.{_≡_, refl, sym, _∙_, ap}
-use mathlib.Core.Bool.{Bool, true, false, _&&_, _||_, false≢true}
+use mathlib.Core.Path.{_≡_, refl, _∙_}
+use mathlib.Core.Bool.{Bool, true, false, _&&_, false≢true}
 use mathlib.Core.Logic.{⊎-elim, inl, inr}
 use mathlib.Core.List.{List}
 use Prim.Native.Nat.{ℕ, _+_, _-_, _≤_, _<_}
@@ -50,7 +50,7 @@ only-put l r g h q = record {
         rw k (put-at r g h (i - at-id) x ∙ q .kept (i - at-id) (rw k at e) ∙ regs-at r (i - at-id) x)
 
 -- ---- the RAM
-pub only-set : (r : List ℕ) (a v : ℕ) → OnlyAt (λ i. eqb i a) r (set r a v)
+only-set : (r : List ℕ) (a v : ℕ) → OnlyAt (λ i. eqb i a) r (set r a v)
 only-set r a v = record { size = length-set r a v; same = λ i e. getD-set-other r a i v 0 (eqb-false i a e) }
 
 pub only-stamped : (r : List ℕ) (p : ℕ) → OnlyAt (λ i. eqb i (pageAt p)) r (stamped r p)

@@ -7,20 +7,20 @@ use Prim.Native.Nat.{ℕ, _+_, _≤_, _<_}
 use native.Mathlib.Omega.{arith}
 use lib.Dec.{eqb}
 use lib.ListN.{length}
-use borrow.Author.Tests.{eqb-true, eqb-false, eq-eqb, ne-eqb}
+use borrow.Author.Tests.{eqb-true, ne-eqb}
 use Rattle.registers.specs.declared.regs.Regs.{Regs}
 use Rattle.card.specs.declared.packets.Packet.{Packet}
 use Rattle.line.specs.declared.passes.Event.{Event}
 use Rattle.line.specs.declared.passes.Event.the-variants.{Recovery, Message, Taken}
 use Rattle.registers.specs.Words.{pick, among}
-use Rattle.registers.specs.Layout.{at-status, at-diagnostic, at-nid, at-receive}
-use Rattle.registers.specs.Events.{risenNid, receiving, receivePage}
+use Rattle.registers.specs.Layout.{at-status, at-diagnostic, at-receive}
+use Rattle.registers.specs.Events.{receiving, receivePage}
 use Rattle.card.specs.Row.{rowBytes, regsOf, putRegs, wellFormed}
 use Rattle.card.specs.Packets.{pageBytes, pageAt, stored, storable}
 use Rattle.card.specs.Moves.{OnlyAt, inPacket}
-use Rattle.registers.proofs.Words.Bools.{and-left, and-right, or-left, or-right, or-false, pick-of, pick-both}
+use Rattle.registers.proofs.Words.Bools.{and-left, and-right, or-left, or-right, or-false, pick-of}
 use Rattle.registers.proofs.Values.Fits.{Fit, fit-rules}
-use Rattle.registers.proofs.Values.Keeps.{Keeps, keeps-same, keeps-recovered, keeps-heard, keeps-answered, keeps-risen, keeps-received}
+use Rattle.registers.proofs.Values.Keeps.{keeps-received}
 use Rattle.registers.proofs.Values.Ends.{transmit-page-small}
 use Rattle.registers.proofs.Values.Listens.{Listens, listens-same, listens-recovered, listens-heard, listens-answered, reached-risen, takes-same, receive-page-same}
 use Rattle.card.proofs.Rows.Bytes.{regs-put, well-fit}
@@ -28,15 +28,16 @@ use Rattle.card.proofs.Rows.Moves.{only-stays, only-then, only-wider, only-put,
 use Rattle.card.proofs.Rows.Bystanders.{storable-same, Bystander, bystander-same, bystander-then, bystander-put, Storing, stores-after, stores-then, room, stores-stored}
 use Rattle.card.proofs.Pages.Stored.{length-stored}
 use Rattle.card.proofs.Pages.Sent.{SentFrom}
-use Rattle.table.specs.Network.{rows, phase, holder, LOST, PASS, TAKEN, rowAt, onRegs, regsAt, shape}
+use Rattle.table.specs.Network.{rows, phase, holder, TAKEN, rowAt, regsAt, shape}
 use Rattle.line.specs.Traffic.{happens, storedRow, takes, carriedRow}
 use Rattle.line.specs.Step.{step}
 use Rattle.line.specs.Outcomes.{sender, sentPage, sentShape, stores, rowMoves}
-use Rattle.table.proofs.Shaped.Shapes.{shape-phase, shape-row-length}
+use Rattle.table.proofs.Shaped.Shapes.{shape-row-length}
 use Rattle.table.proofs.Shaped.Alike.{Rams}
-use Rattle.line.proofs.Change.Changes.{Rises, Cancels, Enquires, Ends, Change, Reaches, Does, Stamps, Carries, rowDone, Whole, Tries, Goes, Comes, Allowed, storesIt, storedBy}
+use Rattle.line.proofs.Change.Changes.{Rises, Cancels, Enquires, Ends, Change, Reaches, Does, Stamps, Carries, rowDone, Whole, Tries, Goes, Allowed, storesIt, storedBy}
 use Rattle.line.proofs.Change.Paths.{by-rows}
 use Rattle.line.proofs.Steps.Stepped.{held-row}
+use Rattle.line.proofs.Promised.Asides.{event-moves, rise-moves, stores-more}
 use Rattle.line.proofs.Steps.StepBy.{step-by}
 
 -- ---- a row that stored the packet, or has not: a bystander whose RI stays
@@ -66,40 +67,9 @@ module _ (net : List ℕ) (s : shape net ≡ true) (b : Rams net) (fault : ℕ) 
       on true m i w = stores-then (sender net) (sentPage net) r t _ w m i
       on false m i w = (bystander-then r t _ (w .0) m, i ∙ w .1)
 
-  -- ---- which of its bytes may move
   module _ (j : ℕ) (aside : phase net ≡ TAKEN → j ≡ h → ⊥) where
     abbrev Moves : Bool → List ℕ → List ℕ → Type 0
     Moves x = OnlyAt (rowMoves net x j)
-
-    taken : eqb (phase net) LOST ≡ false → eqb (phase net) PASS ≡ false → phase net ≡ TAKEN
-    taken t u = omega (arith, shape-phase net s, eqb-false (phase net) LOST t, eqb-false (phase net) PASS u)
-
-    -- outside LOST, diagnostic status
-    heard-moves : (phase net ≡ LOST → ⊥) → (x : Bool) (i : ℕ) → rowMoves net x j i ≡ false → among (at-diagnostic ∷ []) i ≡ false
-    heard-moves n x i =
-        let P : Bool → Type 0 = λ y. y ≡ false → among (at-diagnostic ∷ []) i ≡ false in
-        let here : (y : Bool) → (eqb i at-diagnostic || y) ≡ false → among (at-diagnostic ∷ []) i ≡ false = λ y e. rw (or-left (eqb i at-diagnostic) y e) in
-        pick-of P (eqb (phase net) LOST) (λ t. absurd (n (eqb-true (phase net) LOST t)))
-        (λ t. pick-of P (eqb (phase net) PASS) (λ _. here _)
-        (λ u. pick-of P (eqb j h) (λ v. absurd (aside (taken t u) (eqb-true j h v))) (λ _. here _)))
-
-    -- an event
-    event-moves : (e : Event) → Comes net e → (x : Bool) (r : List ℕ) → length r ≡ rowBytes → Moves x r (onRegs (happens e j) r)
-    event-moves Recovery a x r l =
-        only-wider r _ (λ i e. rw (eq-eqb (phase net) LOST a) at e) (only-put (at-status ∷ at-nid ∷ []) r _ (omega arith) (keeps-recovered _ (regsOf r) refl refl))
-    event-moves (Message k token) a x r l =
-        only-wider r _ (heard-moves (a .1) x)
-        (only-put (at-diagnostic ∷ []) r _ (omega arith) (pick-of (Keeps (at-diagnostic ∷ []) (regsOf r)) (eqb j k) (λ _. keeps-same _ (regsOf r)) (λ _. keeps-heard _ (regsOf r) refl token)))
-    event-moves (Taken n t) a x r l =
-        only-wider r _ (heard-moves (λ e. omega (arith, a, e)) x) (only-put (at-diagnostic ∷ []) r _ (omega arith) (keeps-answered _ (regsOf r) refl n (eqb j t)))
-
-    -- the holder's NID rises in PASS
-    rise-moves : phase net ≡ PASS → (x : Bool) (r : List ℕ) → length r ≡ rowBytes → Moves x r (pick (eqb j h) (onRegs risenNid r) r)
-    rise-moves p x r l =
-        pick-of (Moves x r) (eqb j h)
-        (λ t. only-wider r _ (λ i e. let f : (eqb i at-diagnostic || eqb i at-nid) ≡ false = rw (p, t) at e in rw (or-right (eqb i at-diagnostic) (eqb i at-nid) f))
-        (only-put (at-nid ∷ []) r _ (omega arith) (keeps-risen _ (regsOf r) refl)))
-        (λ _. only-stays _ r)
 
     -- ---- a packet reaches the row t, which was r
     module _ (to : ℕ) (broadcast : Bool) (k : Packet) (a : Whole k) (z : Tries net) (sent : SentFrom (sender net) (sentPage net) k) (r t : List ℕ) (er : r ≡ rowAt net j)
@@ -181,25 +151,17 @@ module _ (net : List ℕ) (s : shape net ≡ true) (b : Rams net) (fault : ℕ) 
           (by-asking (storesIt h (Carries to broadcast k) j (regsOf r))
           (λ t. record {
             watches = watched to broadcast k (a .whole) (a .tries) (a .packet) was r refl m w (y .0) (y .1) t;
-            moves = only-then was r _ (only-wider was r (unstored true) (v .moves)) (moved to broadcast k (a .whole) (a .tries) (a .packet) was r refl m w (y .0) (y .1) t);
+            moves = only-then was r _ (only-wider was r (stores-more net s j aside) (v .moves)) (moved to broadcast k (a .whole) (a .tries) (a .packet) was r refl m w (y .0) (y .1) t);
           }) v)
         where
           by-asking : (x : Bool) {t : List ℕ} → (x ≡ true → Seen true t) → Seen false r → Seen x (pick x t r)
           by-asking true p q = p refl
           by-asking false p q = q
 
-          -- a row that stores may move all that a bystander may
-          unstored : (y : Bool) (i : ℕ) → rowMoves net y j i ≡ false → rowMoves net false j i ≡ false
-          unstored false i = λ e. e
-          unstored true i =
-              pick-both (λ (a b : Bool). a ≡ false → b ≡ false) (eqb (phase net) LOST) (λ e. e)
-              (pick-both (λ (a b : Bool). a ≡ false → b ≡ false) (eqb (phase net) PASS) (λ e. e)
-              (pick-both (λ (a b : Bool). a ≡ false → b ≡ false) (eqb j h) (λ e. e) (λ e. or-false (eqb i at-diagnostic) ∙ or-left (eqb i at-diagnostic) _ e)))
-
       seen : (c : Change) → Allowed net l c → Seen (storedBy h (c ∷ l) j (regsAt net j)) (rowDone h c j r)
-      seen (Reaches e) a = then _ (watches-put x was r m (happens e j (regsOf r)) (reaches e j (regsOf r)) (q .watches)) (event-moves e a x r m)
+      seen (Reaches e) a = then _ (watches-put x was r m (happens e j (regsOf r)) (reaches e j (regsOf r)) (q .watches)) (event-moves net s j aside e a x r m)
       seen (Does Rises) a =
-          then _ (pick-of (Watches x was) (eqb j h) (λ _. watches-put x was r m _ (reached-risen (regsOf r)) (q .watches)) (λ _. q .watches)) (rise-moves a x r m)
+          then _ (pick-of (Watches x was) (eqb j h) (λ _. watches-put x was r m _ (reached-risen (regsOf r)) (q .watches)) (λ _. q .watches)) (rise-moves net s j aside a x r m)
       seen (Does Cancels) a = not-mine a _
       seen (Does (Enquires nak)) a = not-mine (a .taken) _
       seen (Does (Ends y z)) a = not-mine (a .taken) _

@@ -1,7 +1,7 @@
 -- A fault that meets no message of its kind does nothing.
 -- Assumes nothing.
 use mathlib.Core.Path.{_≡_, refl, ap}
-use mathlib.Core.Bool.{Bool, true, false, _&&_, true≢false}
+use mathlib.Core.Bool.{true, false, _&&_, true≢false}
 use mathlib.Core.List.{List}
 use mathlib.Core.Logic.{⊎-elim}
 use Prim.Native.Nat.{ℕ, _≤_}
@@ -11,7 +11,6 @@ use borrow.Author.Tests.{eqb-true, eqb-false, le-ltb}
 use Rattle.line.specs.declared.traffic.Outcome.{Outcome}
 use Rattle.line.specs.declared.step.Answer.{Answer}
 use Rattle.line.specs.declared.step.Answer.the-variants.{Held}
-use Rattle.registers.specs.Words.{pick}
 use Rattle.card.specs.Packets.{malformed, pageShape, destination}
 use Rattle.registers.specs.Events.{cancelled, transmitting, receiving, transmitPage}
 use Rattle.card.specs.Packets.{storable}

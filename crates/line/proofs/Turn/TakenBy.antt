@@ -3,45 +3,37 @@
 use mathlib.Core.Path.{_≡_, refl, sym, _∙_, ap}
 use mathlib.Core.Bool.{Bool, true, false, not, _&&_, _||_}
 use mathlib.Core.List.{List, [], _∷_}
-use mathlib.Core.Logic.{⊎-elim}
-use Prim.Native.Nat.{ℕ, _≤_, _<_}
+use Prim.Native.Nat.{ℕ, _<_}
 use native.Mathlib.Omega.{arith}
 use lib.Dec.{eqb, ltb}
-use lib.ListN.{length, getD}
-use borrow.Author.Tests.{eqb-true, eqb-false, eq-eqb, ne-eqb, ltb-true, ltb-false}
+use borrow.Author.Tests.{ltb-true, ltb-false}
 use Rattle.registers.specs.declared.regs.Regs.{Regs}
 use Rattle.card.specs.declared.packets.Shape.{Shape}
 use Rattle.line.specs.declared.passes.Event.the-variants.{Message}
 use Rattle.line.specs.declared.traffic.Outcome.{Outcome}
 use Rattle.line.specs.declared.traffic.Outcome.the-variants.{Nothing, Malformed, Broadcast, NoAnswer, Nak, Delivered, Unacknowledged}
 use Rattle.registers.specs.Words.{pick}
-use Rattle.registers.specs.Layout.{at-status, at-transmit, at-receive}
-use Rattle.registers.specs.Events.{cancelled, transmitting, receiving, takesBroadcasts, transmitPage}
-use Rattle.card.specs.Row.{rowBytes, regsOf, putRegs}
-use Rattle.card.specs.Packets.{malformed, pageShape, destination, packetAt, stamped, storable}
-use Rattle.registers.proofs.Words.Bools.{cases, and-left, and-right, and-false, or-false, pick-of}
-use Rattle.registers.proofs.Values.SameCard.{same-cancelled}
-use Rattle.registers.proofs.Values.Keeps.{keeps-cancelled}
-use Rattle.registers.proofs.Values.Listens.{takes-receives}
-use Rattle.registers.proofs.Values.Ends.{transmit-page-small, page-of}
-use Rattle.card.proofs.Rows.Bytes.{length-put, put-rest}
+use Rattle.registers.specs.Events.{cancelled, transmitting, receiving, transmitPage}
+use Rattle.card.specs.Row.{regsOf}
+use Rattle.card.specs.Packets.{malformed, pageShape, destination, packetAt, storable}
+use Rattle.registers.proofs.Words.Bools.{and-left, and-right, or-false, pick-of}
+use Rattle.registers.proofs.Values.Ends.{transmit-page-small}
 use Rattle.card.proofs.Rows.Rams.{packet-bytes}
-use Rattle.card.proofs.Pages.Stored.{length-stamped}
 use Rattle.card.proofs.Pages.Packets.{packet-full, packet-count}
-use Rattle.card.proofs.Pages.Sent.{shape-same, did-same, SentFrom, sent-from}
 use Rattle.table.specs.Network.{rows, phase, holder, TAKEN, rowAt, regsAt, nodeOf, shape}
 use Rattle.line.specs.Traffic.{Turn, onRow, happened, damaged, ackLost, takes, stampedNet, wentOut, broadcastTurn, acknowledged, packetTurn, asked, enquiryTurn, tryTurn, takenTurn}
 use Rattle.line.specs.Step.{stepNumber}
-use Rattle.line.specs.Outcomes.{sentPage, sentShape, sentTo, addressee, stores, holderAfter}
-use Rattle.table.proofs.Rows.Networks.{rowAt-setRow}
+use Rattle.line.specs.Outcomes.{sentShape, sentTo, addressee, stores, holderAfter}
 use Rattle.table.proofs.Online.Nodes.{nodeOf-found}
 use Rattle.table.proofs.Online.SameNodes.{alike-node-of}
-use Rattle.table.proofs.Shaped.Shapes.{shape-within, shape-row-length}
+use Rattle.table.proofs.Shaped.Shapes.{shape-row-length}
 use Rattle.table.proofs.Shaped.Alike.{Rams, Alike}
 use Rattle.line.proofs.Steps.Stepped.{held-row}
 use Rattle.line.proofs.Change.Changes.{Own, Cancels, Enquires, Ends, does, Change, Reaches, Does, Stamps, Carries, Tries, Allowed, Path, begin, more, allDone, storedBy}
-use Rattle.line.proofs.Change.Made.{own-row, own-here, own-there}
+use Rattle.line.proofs.Change.Made.{own-here, own-there}
 use Rattle.line.proofs.Change.Paths.{sound}
+use Rattle.line.proofs.Turn.Readied.{same-page, same-form, same-did, sent}
+use Rattle.line.proofs.Turn.Storing.{Reached, cast, one, unheard}
 
 -- the changes that lead from a network to what a turn leaves; what the turn's answer says of what they do to the holder's own registers; and who stored a packet
 pub record By {A : Type 0} (Says : (Regs → Regs) → A → Type 0) (net : List ℕ) (fault : ℕ) (t : Turn A) : Type 0 where
@@ -60,17 +52,6 @@ tried Nak = true
 tried Delivered = true
 tried Unacknowledged = true
 
--- who stores the packet of an outcome: of Delivered, the row that the enquiry found and no other; of a broadcast, the rows that take it
-abbrev pub Reached : List ℕ → ℕ → Outcome → Type 0
-Reached net fault Nothing = Unit {0}
-Reached net fault Malformed = Unit {0}
-Reached net fault Broadcast =
-    (j : ℕ) → j < rows net → stores net fault j ≡ (not (damaged fault) && (not (eqb j (holder net)) && takesBroadcasts (regsAt net j) && storable (regsAt net j) (sentShape net)))
-Reached net fault NoAnswer = Unit {0}
-Reached net fault Nak = Unit {0}
-Reached net fault Delivered = (sentTo net ≡ 0 → ⊥) × ((addressee net < rows net) × ((j : ℕ) → stores net fault j ≡ eqb j (addressee net)))
-Reached net fault Unacknowledged = Unit {0}
-
 pub record SaysHeld (net : List ℕ) (fault : ℕ) (f : Regs → Regs) (o : Outcome) : Type 0 where
   pub own : (g : Regs) → f g ≡ holderAfter o g
   pub waits : transmitting (cancelled (regsAt net (holder net))) ≡ tried o
@@ -79,12 +60,6 @@ pub record SaysHeld (net : List ℕ) (fault : ℕ) (f : Regs → Regs) (o : Outc
 alone : (a b c : Bool) → (a && b && c || false) ≡ (a && (b && c))
 alone true b c = or-false (b && c)
 alone false b c = refl
-
--- a row that takes a broadcast has its receiver on
-hears : (away takes on can : Bool) → (takes ≡ true → on ≡ true) → (away && takes && (on && can)) ≡ (away && takes && can)
-hears false takes on can r = refl
-hears true false on can r = refl
-hears true true on can r = rw (r refl)
 
 packet-says : (a : Bool) (g : Regs) → does (Ends true a) (cancelled g) ≡ holderAfter (pick a Delivered Unacknowledged) g
 packet-says true g = refl
@@ -123,24 +98,8 @@ module _ (net : List ℕ) (s : shape net ≡ true) (b : Rams net) (fault : ℕ) 
   low : h < rows net
   low = held-row net s
 
-  abbrev row : List ℕ
-  row = rowAt net h
-
-  size : length row ≡ rowBytes
-  size = shape-row-length net s h low
-
-  -- the holder's row then: its registers, and all else as it was
-  there : rowAt m h ≡ putRegs row (cancelled (regsOf row))
-  there = own-row net h s low Cancels
-
   here : regsAt m h ≡ cancelled (regsAt net h)
   here = own-here net h s low Cancels
-
-  ram : (i : ℕ) → 16 ≤ i → getD (rowAt m h) i 0 ≡ getD row i 0
-  ram = rw there (put-rest row (cancelled (regsOf row)))
-
-  long-same : regsOf (rowAt m h) .long ≡ regsOf row .long
-  long-same = rw here (keeps-cancelled (at-status ∷ at-transmit ∷ at-receive ∷ []) (regsOf row) refl refl refl .kept 13 refl)
 
   abbrev ByTurn : Turn Outcome → Type 0
   ByTurn = By (SaysHeld net fault) net fault
@@ -159,21 +118,15 @@ module _ (net : List ℕ) (s : shape net ≡ true) (b : Rams net) (fault : ℕ) 
     tries : Tries net
     tries = record { taken = p; waits = ap transmitting (sym here) ∙ t }
 
-    -- the page, the shape, the DID and the addressee are those that the row had
-    same-page : page ≡ sentPage net
-    same-page = ap transmitPage here ∙ page-of (regsAt net h) (tries .waits)
+    -- the shape, the DID and the addressee are those that the row had
+    form-is : form ≡ sentShape net
+    form-is = same-form net s (tries .waits)
 
-    size-same : length (rowAt m h) ≡ length row
-    size-same = rw there (length-put row _)
+    did-is : did ≡ sentTo net
+    did-is = same-did net s (tries .waits)
 
-    same-form : form ≡ sentShape net
-    same-form = rw same-page (shape-same row (rowAt m h) size-same long-same ram (sentPage net))
-
-    same-did : did ≡ sentTo net
-    same-did = rw same-page (did-same row (rowAt m h) size-same long-same ram (sentPage net))
-
-    same-to : to ≡ nodeOf net (sentTo net) h (rows net)
-    same-to = rw same-did (alike-node-of now (sentTo net) h)
+    to-is : to ≡ nodeOf net (sentTo net) h (rows net)
+    to-is = rw did-is (alike-node-of now (sentTo net) h)
 
     -- at the end the transmit ends, or waits on
     ends : {x : List ℕ} {l : List Change} → Path net l x → ((g : Regs) → allDone l g ≡ cancelled g) → (o : Own) → Allowed net l (Does o) → (a : Outcome)
@@ -189,12 +142,12 @@ module _ (net : List ℕ) (s : shape net ≡ true) (b : Rams net) (fault : ℕ) 
     malformed-ends : malformed form ≡ true → ByTurn (record { answer = Malformed; after = onRow m h (does (Ends false false)) })
     unfolding stores
     malformed-ends f =
-        let e : malformed (sentShape net) ≡ true = rw same-form at f in
+        let e : malformed (sentShape net) ≡ true = rw form-is at f in
         ends cancels (λ g. refl) (Ends false false) tries Malformed (λ g. refl) refl tt (λ j _. rw (z, p, tries .waits, e))
 
     module _ (sound-form : malformed form ≡ false) where
       f : malformed (sentShape net) ≡ false
-      f = rw same-form at sound-form
+      f = rw form-is at sound-form
 
       -- a packet goes out, and is stored by whoever takes it
       record Went (to : ℕ) (broadcast : Bool) (x : List ℕ) : Type 0 where
@@ -204,19 +157,12 @@ module _ (net : List ℕ) (s : shape net ≡ true) (b : Rams net) (fault : ℕ) 
         stored : (j : ℕ) → storedBy h changes j (regsAt net j)
             ≡ (not (damaged fault) && (takes h to broadcast j (regsAt net j) && (receiving (regsAt net j) && storable (regsAt net j) (sentShape net))))
 
-      sent : SentFrom row (sentPage net) (packetAt (rowAt (stampedNet m h page) h) page)
-      sent =
-          let lm : h < rows m = omega (arith, now .count, low) in
-          let e : rowAt (stampedNet m h page) h ≡ stamped (rowAt m h) page
-          = rowAt-setRow m h _ (shape-within m (now .fits) h lm) (length-stamped (rowAt m h) page ∙ shape-row-length m (now .fits) h lm) in
-          rw (e, same-page)
-          (sent-from row (rowAt m h) (sentPage net) (transmit-page-small (regsAt net h)) size-same size (rw here (same-cancelled (regsAt net h) .id)) long-same ram f)
-
       went-out : (to : ℕ) (broadcast : Bool) → (to ≡ h → ⊥) → Went to broadcast (wentOut m h page fault to broadcast)
       unfolding wentOut
       went-out to broadcast other =
           let x = stampedNet m h page in
-          let c = more cancels (Stamps page) (tries, same-page) in
+          let c = more cancels (Stamps page) (tries, same-page net s (tries .waits)) in
+          let went = sent net s (tries .waits) now f in
           let a = sound net s b c in
           let d = more c (Reaches (Message h false)) (refl, λ e. omega (arith, p, e)) in
           let k = packetAt (rowAt x h) page in
@@ -233,69 +179,51 @@ module _ (net : List ℕ) (s : shape net ≡ true) (b : Rams net) (fault : ℕ) 
                 count = packet-count (rowAt x h) page bytes;
                 small = packet-bytes (rowAt x h) bytes page;
               };
-              packet = sent;
+              packet = went;
               other = other;
             });
             own = λ g. refl;
-            stored = λ j. let g = regsAt net j in rw (e, sent .form) (alone (takes h to broadcast j g) (receiving g) (storable g (sentShape net)));
+            stored = λ j. let g = regsAt net j in rw (e, went .form) (alone (takes h to broadcast j g) (receiving g) (storable g (sentShape net)));
           })
-
-      -- a broadcast reaches the rows that take it
-      cast : eqb (sentTo net) 0 ≡ true → Reached net fault Broadcast
-      unfolding stores
-      cast d j l =
-          let g = regsAt net j in
-          rw (z, p, tries .waits, f, d, ne-eqb j (rows net) (λ e. omega (arith, e)))
-          (ap (not (damaged fault) &&_) (hears (not (eqb j h)) (takesBroadcasts g) (receiving g) (storable g (sentShape net)) (takes-receives g)))
 
       broadcast-ends : eqb did 0 ≡ true → ByTurn (broadcastTurn m h page fault)
       unfolding broadcastTurn stores
       broadcast-ends d =
-          let e : eqb (sentTo net) 0 ≡ true = rw same-did at d in
+          let e : eqb (sentTo net) 0 ≡ true = rw did-is at d in
           let w = went-out (rows m) true (λ e. omega (arith, now .count, low)) in
-          ends (w .path) (w .own) (Ends false false) tries Broadcast (λ g. refl) refl (cast e) (λ j _. w .stored j ∙ rw (z, p, tries .waits, f, e, now .count))
+          ends (w .path) (w .own) (Ends false false) tries Broadcast (λ g. refl) refl (cast net fault z p (tries .waits) f e) (λ j _. w .stored j ∙ rw (z, p, tries .waits, f, e, now .count))
 
       module _ (other-did : eqb did 0 ≡ false) where
         d : eqb (sentTo net) 0 ≡ false
-        d = rw same-did at other-did
+        d = rw did-is at other-did
 
-        -- row `to` stores it, and no other
-        one : (receiving (regsAt net to) ≡ true) → acknowledged m h page fault to ≡ true → to < rows m → Reached net fault Delivered
-        unfolding stores
-        one r a l =
-            let i : addressee net ≡ to = rw d (sym same-to) in
-            let x : regsAt m to ≡ regsAt net to = ap regsOf (own-there net h s low Cancels to (omega (arith, now .count)) (nodeOf-found m did h (rows m) l .1)) in
+        found : addressee net ≡ to
+        found = rw d (sym to-is)
+
+        -- row `to` as it was
+        same : to < rows m → regsAt m to ≡ regsAt net to
+        same l = ap regsOf (own-there net h s low Cancels to (omega (arith, now .count)) (nodeOf-found m did h (rows m) l .1))
+
+        delivers : (l : to < rows m) → receiving (regsAt m to) ≡ true → acknowledged m h page fault to ≡ true → Reached net fault Delivered
+        delivers l r a =
             let u = and-left (not (damaged fault) && storable (regsAt m to) form) (not (ackLost fault)) a in
-            let v : storable (regsAt net to) (sentShape net) ≡ true = rw (x, same-form) at (and-right (not (damaged fault)) (storable (regsAt m to) form) u) in (
-              eqb-false (sentTo net) 0 d,
-              (
-                rw i (omega (arith, now .count)),
-                λ j. rw (i, z, p, tries .waits, f, d, and-left (not (damaged fault)) (storable (regsAt m to) form) u, or-false (eqb j to))
-                    (⊎-elim (λ (e : eqb j to ≡ true). rw (eqb-true j to e, eq-eqb to to refl, r, v)) (λ (e : eqb j to ≡ false). rw e) (cases (eqb j to))),
-              ),
-            )
+            one net fault z p (tries .waits) f d to found (omega (arith, now .count)) (rw (same l) at r) (and-left (not (damaged fault)) (storable (regsAt m to) form) u)
+            (rw (same l, form-is) at (and-right (not (damaged fault)) (storable (regsAt m to) form) u))
 
         packet-ends : to < rows m → receiving (regsAt m to) ≡ true → ByTurn (packetTurn m h page fault to)
         unfolding packetTurn stores
         packet-ends l r =
             let a = acknowledged m h page fault to in
-            let away = nodeOf-found m did h (rows m) l .1 in
-            let w = went-out to false away in
-            let hears : receiving (regsAt net to) ≡ true
-            = ap (λ (x : List ℕ). receiving (regsOf x)) (sym (own-there net h s low Cancels to (omega (arith, now .count)) away)) ∙ r in
+            let w = went-out to false (nodeOf-found m did h (rows m) l .1) in
             ends (w .path) (w .own) (Ends true a) tries (pick a Delivered Unacknowledged) (packet-says a) (packet-tried a)
-            (pick-of (Reached net fault) a (λ e. one hears e l) (λ _. tt)) (λ j _. w .stored j ∙ rw (z, p, tries .waits, f, d, ← same-to))
+            (pick-of (Reached net fault) a (delivers l r) (λ _. tt)) (λ j _. w .stored j ∙ rw (z, p, tries .waits, f, d, ← to-is))
 
         -- a NAK, or no answer: nobody stores it
         asks : Path net (Reaches (Message h false) ∷ Does Cancels ∷ []) (happened m (Message h false))
         asks = more cancels (Reaches (Message h false)) (refl, λ e. omega (arith, p, e))
 
         unstored : ((j : ℕ) → j < rows net → j ≡ to → receiving (regsAt net j) ≡ false) → Nobody
-        unfolding stores
-        unstored deaf j lj =
-            rw (z, p, tries .waits, f, d, ← same-to, or-false (eqb j to))
-            (⊎-elim (λ (e : eqb j to ≡ true). rw (e, deaf j lj (eqb-true j to e)) (sym (and-false (not (damaged fault)))))
-            (λ (e : eqb j to ≡ false). rw e (sym (and-false (not (damaged fault))))) (cases (eqb j to)))
+        unstored deaf = unheard net fault z p (tries .waits) f d to found deaf
 
         enquiry-ends : ByTurn (enquiryTurn m h page fault to)
         unfolding enquiryTurn asked

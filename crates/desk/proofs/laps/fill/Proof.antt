@@ -35,7 +35,7 @@ use denote.RattleType.{owns}
 use denote.Shadow.{pureI}
 use denote.Laws.{Is}
 use denote.Memory.{pointee}
-use denote.Array.{Array, array-vals, array-tells}
+use denote.Array.{Array, array-vals}
 use denote.Plain.{uint-vals, uint-tells}
 use denote.Builtin.{usize}
 use denote.Ref.{RefT}

@@ -1,0 +1,78 @@
+-- The holder's row when its cancels have taken effect: the packet that it then tries is the one that it had.
+-- Assumes nothing.
+use mathlib.Core.Path.{_≡_, refl, _∙_, ap}
+use mathlib.Core.Bool.{true, false}
+use mathlib.Core.List.{List, [], _∷_}
+use Prim.Native.Nat.{ℕ, _≤_, _<_}
+use native.Mathlib.Omega.{arith}
+use lib.ListN.{length, getD}
+use Rattle.registers.specs.Layout.{at-status, at-transmit, at-receive}
+use Rattle.registers.specs.Events.{cancelled, transmitting, transmitPage}
+use Rattle.card.specs.Row.{regsOf, putRegs}
+use Rattle.card.specs.Packets.{malformed, pageShape, destination, packetAt, stamped}
+use Rattle.registers.proofs.Values.SameCard.{same-cancelled}
+use Rattle.registers.proofs.Values.Keeps.{keeps-cancelled}
+use Rattle.registers.proofs.Values.Ends.{transmit-page-small, page-of}
+use Rattle.card.proofs.Rows.Bytes.{length-put, put-rest}
+use Rattle.card.proofs.Pages.Stored.{length-stamped}
+use Rattle.card.proofs.Pages.Same.{shape-same, did-same}
+use Rattle.card.proofs.Pages.Sent.{SentFrom, sent-from}
+use Rattle.table.specs.Network.{rows, holder, rowAt, regsAt, shape}
+use Rattle.table.proofs.Rows.Networks.{rowAt-setRow}
+use Rattle.table.proofs.Shaped.Shapes.{shape-within, shape-row-length}
+use Rattle.table.proofs.Shaped.Alike.{Alike}
+use Rattle.line.specs.Traffic.{onRow, stampedNet}
+use Rattle.line.specs.Outcomes.{sender, sentPage, sentShape, sentTo}
+use Rattle.line.proofs.Steps.Stepped.{held-row}
+use Rattle.line.proofs.Change.Changes.{Cancels}
+use Rattle.line.proofs.Change.Made.{own-row, own-here}
+
+module _ (net : List ℕ) (s : shape net ≡ true) (t : transmitting (cancelled (regsAt net (holder net))) ≡ true) where
+  abbrev h : ℕ
+  h = holder net
+
+  abbrev m : List ℕ
+  m = onRow net h cancelled
+
+  abbrev row : List ℕ
+  row = rowAt net h
+
+  abbrev page : ℕ
+  page = transmitPage (regsAt m h)
+
+  low : h < rows net
+  low = held-row net s
+
+  there : rowAt m h ≡ putRegs row (cancelled (regsOf row))
+  there = own-row net h s low Cancels
+
+  here : regsAt m h ≡ cancelled (regsAt net h)
+  here = own-here net h s low Cancels
+
+  -- but for registers other than the ID and long packets the row is as it was
+  size : length (rowAt m h) ≡ length row
+  size = rw there (length-put row _)
+
+  ram : (i : ℕ) → 16 ≤ i → getD (rowAt m h) i 0 ≡ getD row i 0
+  ram = rw there (put-rest row (cancelled (regsOf row)))
+
+  long : regsOf (rowAt m h) .long ≡ regsOf row .long
+  long = rw here (keeps-cancelled (at-status ∷ at-transmit ∷ at-receive ∷ []) (regsOf row) refl refl refl .kept 13 refl)
+
+  pub same-page : page ≡ sentPage net
+  same-page = ap transmitPage here ∙ page-of (regsAt net h) t
+
+  pub same-form : pageShape (rowAt m h) page ≡ sentShape net
+  same-form = rw same-page (shape-same row (rowAt m h) size long ram (sentPage net))
+
+  pub same-did : destination (rowAt m h) page ≡ sentTo net
+  same-did = rw same-page (did-same row (rowAt m h) size long ram (sentPage net))
+
+  -- the packet that goes
+  pub sent : Alike net m → malformed (sentShape net) ≡ false → SentFrom (sender net) (sentPage net) (packetAt (rowAt (stampedNet m h page) h) page)
+  sent now f =
+      let lm : h < rows m = omega (arith, now .count, low) in
+      let e : rowAt (stampedNet m h page) h ≡ stamped (rowAt m h) page
+      = rowAt-setRow m h _ (shape-within m (now .fits) h lm) (length-stamped (rowAt m h) page ∙ shape-row-length m (now .fits) h lm) in
+      rw (e, same-page)
+      (sent-from row (rowAt m h) (sentPage net) (transmit-page-small (regsAt net h)) size (shape-row-length net s h low) (rw here (same-cancelled (regsAt net h) .id)) long ram f)
