@@ -1,6 +1,7 @@
 -- What is promised of every step: faults, the rows that neither send nor store, the holder.
 pub mod Faults
 pub mod Asides
+pub mod Filling
 pub mod Bystanding
 pub mod TheHolder
 pub mod EveryRow

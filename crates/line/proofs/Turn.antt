@@ -5,4 +5,5 @@ pub mod Tries
 pub mod Turns
 pub mod Readied
 pub mod Storing
+pub mod Says
 pub mod TakenBy

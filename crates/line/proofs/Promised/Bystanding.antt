@@ -1,43 +1,36 @@
 -- What a step does to a row that does not hold in TAKEN: which of its bytes may move, and that it holds the packet where it stores one.
 -- Assumes nothing.
 use mathlib.Core.Path.{_≡_, refl, _∙_, ap}
-use mathlib.Core.Bool.{Bool, true, false, _&&_, _||_}
-use mathlib.Core.List.{List, [], _∷_}
-use Prim.Native.Nat.{ℕ, _+_, _≤_, _<_}
+use mathlib.Core.Bool.{Bool, true, false, _||_}
+use mathlib.Core.List.{List, _∷_}
+use Prim.Native.Nat.{ℕ, _<_}
 use native.Mathlib.Omega.{arith}
 use lib.Dec.{eqb}
 use lib.ListN.{length}
-use borrow.Author.Tests.{eqb-true, ne-eqb}
+use borrow.Author.Tests.{eqb-true}
 use Rattle.registers.specs.declared.regs.Regs.{Regs}
 use Rattle.card.specs.declared.packets.Packet.{Packet}
 use Rattle.line.specs.declared.passes.Event.{Event}
 use Rattle.line.specs.declared.passes.Event.the-variants.{Recovery, Message, Taken}
-use Rattle.registers.specs.Words.{pick, among}
-use Rattle.registers.specs.Layout.{at-status, at-diagnostic, at-receive}
-use Rattle.registers.specs.Events.{receiving, receivePage}
+use Rattle.registers.specs.Words.{pick}
+use Rattle.registers.specs.Events.{receiving}
 use Rattle.card.specs.Row.{rowBytes, regsOf, putRegs, wellFormed}
-use Rattle.card.specs.Packets.{pageBytes, pageAt, stored, storable}
-use Rattle.card.specs.Moves.{OnlyAt, inPacket}
-use Rattle.registers.proofs.Words.Bools.{and-left, and-right, or-left, or-right, or-false, pick-of}
-use Rattle.registers.proofs.Values.Fits.{Fit, fit-rules}
-use Rattle.registers.proofs.Values.Keeps.{keeps-received}
-use Rattle.registers.proofs.Values.Ends.{transmit-page-small}
-use Rattle.registers.proofs.Values.Listens.{Listens, listens-same, listens-recovered, listens-heard, listens-answered, reached-risen, takes-same, receive-page-same}
-use Rattle.card.proofs.Rows.Bytes.{regs-put, well-fit}
-use Rattle.card.proofs.Rows.Moves.{only-stays, only-then, only-wider, only-put, only-stored}
-use Rattle.card.proofs.Rows.Bystanders.{storable-same, Bystander, bystander-same, bystander-then, bystander-put, Storing, stores-after, stores-then, room, stores-stored}
-use Rattle.card.proofs.Pages.Stored.{length-stored}
-use Rattle.card.proofs.Pages.Sent.{SentFrom}
+use Rattle.card.specs.Packets.{stored}
+use Rattle.card.specs.Moves.{OnlyAt}
+use Rattle.registers.proofs.Words.Bools.{or-false, pick-of}
+use Rattle.registers.proofs.Values.Listens.{Listens, listens-same, listens-recovered, listens-heard, listens-answered, reached-risen}
+use Rattle.card.proofs.Rows.Bytes.{regs-put}
+use Rattle.card.proofs.Rows.Moves.{only-stays, only-then, only-wider}
+use Rattle.card.proofs.Rows.Bystanders.{Bystander, bystander-same, bystander-then, bystander-put, Storing, stores-then}
 use Rattle.table.specs.Network.{rows, phase, holder, TAKEN, rowAt, regsAt, shape}
-use Rattle.line.specs.Traffic.{happens, storedRow, takes, carriedRow}
+use Rattle.line.specs.Traffic.{happens, carriedRow}
 use Rattle.line.specs.Step.{step}
-use Rattle.line.specs.Outcomes.{sender, sentPage, sentShape, stores, rowMoves}
-use Rattle.table.proofs.Shaped.Shapes.{shape-row-length}
+use Rattle.line.specs.Outcomes.{sender, sentPage, stores, rowMoves}
 use Rattle.table.proofs.Shaped.Alike.{Rams}
-use Rattle.line.proofs.Change.Changes.{Rises, Cancels, Enquires, Ends, Change, Reaches, Does, Stamps, Carries, rowDone, Whole, Tries, Goes, Allowed, storesIt, storedBy}
+use Rattle.line.proofs.Change.Changes.{Rises, Cancels, Enquires, Ends, Change, Reaches, Does, Stamps, Carries, rowDone, Goes, Allowed, storesIt, storedBy}
 use Rattle.line.proofs.Change.Paths.{by-rows}
-use Rattle.line.proofs.Steps.Stepped.{held-row}
 use Rattle.line.proofs.Promised.Asides.{event-moves, rise-moves, stores-more}
+use Rattle.line.proofs.Promised.Filling.{asks-same, watched, moved}
 use Rattle.line.proofs.Steps.StepBy.{step-by}
 
 -- ---- a row that stored the packet, or has not: a bystander whose RI stays
@@ -71,57 +64,6 @@ module _ (net : List ℕ) (s : shape net ≡ true) (b : Rams net) (fault : ℕ) 
     abbrev Moves : Bool → List ℕ → List ℕ → Type 0
     Moves x = OnlyAt (rowMoves net x j)
 
-    -- ---- a packet reaches the row t, which was r
-    module _ (to : ℕ) (broadcast : Bool) (k : Packet) (a : Whole k) (z : Tries net) (sent : SentFrom (sender net) (sentPage net) k) (r t : List ℕ) (er : r ≡ rowAt net j)
-        (l : length t ≡ rowBytes) (w : wellFormed t ≡ true) (y : Bystander r t) (i : Receives t ≡ Receives r) where
-      abbrev Asks : List ℕ → Bool
-      Asks x = storesIt h (Carries to broadcast k) j (regsOf x)
-
-      asks-same : Asks t ≡ Asks r
-      asks-same = rw (takes-same (regsOf r) (regsOf t) (y .registers) i, storable-same (regsOf r) (regsOf t) (y .registers) (k .shape), i)
-
-      module _ (e : Asks t ≡ true) where
-        abbrev asked-for : Bool
-        asked-for = takes h to broadcast j (regsOf t)
-
-        on : Receives t ≡ true
-        on = and-right asked-for (Receives t) (and-left (asked-for && Receives t) (storable (regsOf t) (k .shape)) e)
-
-        can : storable (regsOf t) (k .shape) ≡ true
-        can = and-right (asked-for && Receives t) (storable (regsOf t) (k .shape)) e
-
-        fits : Fit (regsOf t)
-        fits = fit-rules (regsOf t) (well-fit t w)
-
-        page-small : sentPage net < 4
-        page-small = transmit-page-small (regsAt net h)
-
-        sender-size : length (sender net) ≡ rowBytes
-        sender-size = shape-row-length net s h (held-row net s)
-
-        watched : Storing (sender net) (sentPage net) r (storedRow t k)
-        watched =
-            stores-after (sender net) (sentPage net) r t _ y i (stores-stored (sender net) (sentPage net) sender-size page-small k sent (a .full) (a .count) t l fits on can)
-
-        abbrev q : ℕ
-        q = receivePage (regsOf t)
-
-        space : pageAt q + pageBytes (k .shape) ≤ length t
-        space = room (sender net) (sentPage net) sender-size page-small k sent (a .full) (a .count) t l fits on can
-
-        moved : Moves true t (storedRow t k)
-        moved =
-            let x = stored t q k in
-            let n = ne-eqb j h (aside (z .taken)) in
-            let split : (v : ℕ) → rowMoves net true j v ≡ false → (among (at-status ∷ at-receive ∷ []) v ≡ false) × (inPacket (receivePage (regsOf r)) (sentShape net) v ≡ false)
-            = λ v u. let f : (eqb v at-diagnostic || (among (at-status ∷ at-receive ∷ []) v || inPacket (receivePage (regsOf r)) (sentShape net) v)) ≡ false
-            = rw (z .taken, n, ← er) at u in
-            let g = or-right (eqb v at-diagnostic) _ f in (or-left (among (at-status ∷ at-receive ∷ []) v) _ g, or-right (among (at-status ∷ at-receive ∷ []) v) _ g) in
-            only-then t x _
-            (only-wider t x (λ v u. rw (receive-page-same (regsOf r) (regsOf t) (y .registers), sent .form) (split v u .1)) (only-stored t q k space (a .full) (a .count)))
-            (only-wider x _ (λ v u. split v u .0)
-            (only-put (at-status ∷ at-receive ∷ []) x _ (omega (arith, l, length-stored t q k space (a .full) (a .count))) (keeps-received _ (regsOf x) refl refl)))
-
     -- ---- through each change
     record Seen (x : Bool) (r : List ℕ) : Type 0 where
       watches : Watches x (rowAt net j) r
@@ -146,12 +88,12 @@ module _ (net : List ℕ) (s : shape net ≡ true) (b : Rams net) (fault : ℕ) 
           let none = a .once j (regsAt net j) in
           let v : Seen false r = rw none at q in
           let y = v .watches in
-          let e = asks-same to broadcast k (a .whole) (a .tries) (a .packet) was r refl m w (y .0) (y .1) in
+          let e = asks-same net s j aside to broadcast k (a .whole) (a .tries) (a .packet) was r refl m w (y .0) (y .1) in
           rw (none, or-false (storesIt h (Carries to broadcast k) j (regsAt net j)), ← e)
           (by-asking (storesIt h (Carries to broadcast k) j (regsOf r))
           (λ t. record {
-            watches = watched to broadcast k (a .whole) (a .tries) (a .packet) was r refl m w (y .0) (y .1) t;
-            moves = only-then was r _ (only-wider was r (stores-more net s j aside) (v .moves)) (moved to broadcast k (a .whole) (a .tries) (a .packet) was r refl m w (y .0) (y .1) t);
+            watches = watched net s j aside to broadcast k (a .whole) (a .tries) (a .packet) was r refl m w (y .0) (y .1) t;
+            moves = only-then was r _ (only-wider was r (stores-more net s j aside) (v .moves)) (moved net s j aside to broadcast k (a .whole) (a .tries) (a .packet) was r refl m w (y .0) (y .1) t);
           }) v)
         where
           by-asking : (x : Bool) {t : List ℕ} → (x ≡ true → Seen true t) → Seen false r → Seen x (pick x t r)

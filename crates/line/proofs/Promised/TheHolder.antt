@@ -41,7 +41,7 @@ use Rattle.line.proofs.Steps.Stepped.{held-row}
 use Rattle.line.proofs.Change.Changes.{Own, Rises, Cancels, Enquires, Ends, Change, Reaches, Does, Stamps, Carries, does, rowDone, Allowed, Comes, allDone}
 use Rattle.line.proofs.Change.Paths.{by-rows}
 use Rattle.line.proofs.Turn.Storing.{Reached}
-use Rattle.line.proofs.Turn.TakenBy.{tried, SaysHeld}
+use Rattle.line.proofs.Turn.Says.{tried, SaysHeld}
 use Rattle.line.proofs.Steps.StepBy.{step-by}
 
 -- ---- the holder's registers, as the outcomes leave them

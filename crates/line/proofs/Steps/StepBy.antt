@@ -23,7 +23,8 @@ use Rattle.table.proofs.Shaped.Alike.{Rams, Alike}
 use Rattle.line.proofs.Steps.Holders.{highest-held, taker-held}
 use Rattle.line.proofs.Change.Changes.{Rises, Reaches, Does, Turns, begin, more, turn}
 use Rattle.line.proofs.Change.Paths.{sound, frame}
-use Rattle.line.proofs.Turn.TakenBy.{By, SaysHeld, taken-by}
+use Rattle.line.proofs.Turn.Says.{By, SaysHeld}
+use Rattle.line.proofs.Turn.TakenBy.{taken-by}
 
 -- what an answer says of what the step did to the holder's own registers
 abbrev pub Says : List ℕ → ℕ → (Regs → Regs) → Answer → Type 0

@@ -34,40 +34,11 @@ use Rattle.line.proofs.Change.Made.{own-here, own-there}
 use Rattle.line.proofs.Change.Paths.{sound}
 use Rattle.line.proofs.Turn.Readied.{same-page, same-form, same-did, sent}
 use Rattle.line.proofs.Turn.Storing.{Reached, cast, one, unheard}
-
--- the changes that lead from a network to what a turn leaves; what the turn's answer says of what they do to the holder's own registers; and who stored a packet
-pub record By {A : Type 0} (Says : (Regs → Regs) → A → Type 0) (net : List ℕ) (fault : ℕ) (t : Turn A) : Type 0 where
-  pub changes : List Change
-  pub path : Path net changes (t .after)
-  pub says : Says (allDone changes) (t .answer)
-  pub stored : (j : ℕ) → j < rows net → storedBy (holder net) changes j (regsAt net j) ≡ stores net fault j
-
--- whether a packet was tried
-abbrev pub tried : Outcome → Bool
-tried Nothing = false
-tried Malformed = true
-tried Broadcast = true
-tried NoAnswer = true
-tried Nak = true
-tried Delivered = true
-tried Unacknowledged = true
-
-pub record SaysHeld (net : List ℕ) (fault : ℕ) (f : Regs → Regs) (o : Outcome) : Type 0 where
-  pub own : (g : Regs) → f g ≡ holderAfter o g
-  pub waits : transmitting (cancelled (regsAt net (holder net))) ≡ tried o
-  pub reached : Reached net fault o
+use Rattle.line.proofs.Turn.Says.{By, tried, SaysHeld, packet-says, packet-tried}
 
 alone : (a b c : Bool) → (a && b && c || false) ≡ (a && (b && c))
 alone true b c = or-false (b && c)
 alone false b c = refl
-
-packet-says : (a : Bool) (g : Regs) → does (Ends true a) (cancelled g) ≡ holderAfter (pick a Delivered Unacknowledged) g
-packet-says true g = refl
-packet-says false g = refl
-
-packet-tried : (a : Bool) → tried (pick a Delivered Unacknowledged) ≡ true
-packet-tried true = refl
-packet-tried false = refl
 
 module _ (net : List ℕ) (s : shape net ≡ true) (b : Rams net) (fault : ℕ) (z : eqb (stepNumber net fault) 0 ≡ true) (p : phase net ≡ TAKEN) where
   abbrev h : ℕ
