@@ -8,7 +8,7 @@ use lib.ListN.{getD, take, drop}
 use lib.Seq.{sets}
 use Rattle.registers.specs.declared.regs.Regs.{Regs}
 use Rattle.registers.specs.Registers.{ramBytes}
-use Rattle.registers.specs.Layout.{bytesOf}
+use Rattle.registers.specs.Layout.{at-id, at-status, at-diagnostic, at-mask, at-configuration, at-setup, at-tentative, at-nid, at-high, at-low, at-mode, at-transmit, at-receive, at-long, bytesOf}
 use Rattle.registers.specs.Fit.{fit}
 
 -- "n rows of 1,088 bytes: 64 of registers, then 1,024 of RAM"
@@ -22,29 +22,28 @@ rowBytes = registerBytes + ramBytes
 abbrev pub mark : List ℕ
 mark = 0x4e ∷ 0x44 ∷ []
 
--- "2 node ID; 3 status; 4 diagnostic status; 5 interrupt mask; 6 configuration; 7 setup; 8 tentative ID; 9 NID; 10 pointer high (0-3);
--- 11 pointer low; 12 mode ..; 13 transmit ..; 14 receive ..; 15 long packets 0 or 1"
+-- the registers at their bytes
 unfoldable pub regsOf : List ℕ → Regs
 regsOf r = record {
-  id = getD r 2 0;
-  status = getD r 3 0;
-  diagnostic = getD r 4 0;
-  mask = getD r 5 0;
-  configuration = getD r 6 0;
-  setup = getD r 7 0;
-  tentative = getD r 8 0;
-  nid = getD r 9 0;
-  high = getD r 10 0;
-  low = getD r 11 0;
-  mode = getD r 12 0;
-  transmit = getD r 13 0;
-  receive = getD r 14 0;
-  long = getD r 15 0;
+  id = getD r at-id 0;
+  status = getD r at-status 0;
+  diagnostic = getD r at-diagnostic 0;
+  mask = getD r at-mask 0;
+  configuration = getD r at-configuration 0;
+  setup = getD r at-setup 0;
+  tentative = getD r at-tentative 0;
+  nid = getD r at-nid 0;
+  high = getD r at-high 0;
+  low = getD r at-low 0;
+  mode = getD r at-mode 0;
+  transmit = getD r at-transmit 0;
+  receive = getD r at-receive 0;
+  long = getD r at-long 0;
 }
 
--- the row with the registers g at bytes 2 to 15
+-- the row with the registers g at those bytes
 unfoldable pub putRegs : List ℕ → Regs → List ℕ
-putRegs r g = sets r 2 (bytesOf g)
+putRegs r g = sets r at-id (bytesOf g)
 
 -- "16-63 zero"
 unfoldable pub zeros : List ℕ → Bool
