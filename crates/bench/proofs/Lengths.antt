@@ -9,8 +9,8 @@ use lib.Dec.{eqb, ltb}
 use lib.ListN.{take, drop}
 use borrow.Author.Tests.{ltb-false}
 use borrow.Rule.Slice.PartMut.{midOf, putMid}
-use Rattle.registers.specs.Words.{pick}
-use Rattle.registers.proofs.Words.Bools.{pick-of}
+use Rattle.bits.specs.Words.{pick}
+use Rattle.bits.proofs.Words.Bools.{pick-of}
 use Rattle.words.specs.Words.{word, count, spaced}
 use Rattle.words.specs.Hex.{hexFits}
 use Rattle.prompt.specs.declared.answers.Mistake.{Mistake}

@@ -11,7 +11,7 @@ use lib.ListN.{length, take, length-append}
 use lib.Seq.{take-at}
 use borrow.Author.Tests.{le-leb, lt-leb, leb-true, leb-false, not-true, not-false}
 use borrow.Rule.Slice.PartMut.{putMid, post-is}
-use Rattle.registers.proofs.Words.Bools.{cases}
+use Rattle.bits.proofs.Words.Bools.{cases}
 use Rattle.words.specs.Hex.{unhex}
 use Rattle.words.proofs.Pairs.{unhex-length}
 use Rattle.bench.specs.Calls.{inside, poked}

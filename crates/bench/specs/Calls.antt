@@ -5,7 +5,7 @@ use mathlib.Core.List.{List, [], _∷_, _++_}
 use Prim.Native.Nat.{ℕ, _+_}
 use lib.Dec.{leb}
 use lib.ListN.{length, take, drop}
-use Rattle.registers.specs.Words.{pick}
+use Rattle.bits.specs.Words.{pick}
 use Rattle.registers.specs.Numbers.{REGISTER, VALUE, Refusal, _when_, told}
 use Rattle.registers.specs.Refusals.{noRegister}
 use Rattle.table.specs.Numbers.{SHAPE}

@@ -6,7 +6,7 @@ use Prim.Native.Nat.{ℕ}
 use Prim.Native.Char.{code}
 use Prim.Native.String.{String, [] as none, _∷_ as _and_}
 use lib.Dec.{eqb, ltb, leb}
-use Rattle.registers.specs.Words.{pick}
+use Rattle.bits.specs.Words.{pick}
 use Rattle.words.specs.declared.numbers.Number.{Number}
 use Rattle.words.specs.Words.{NEWLINE, word, row, count, spaced}
 use Rattle.words.specs.Numbers.{numberOf}

@@ -5,7 +5,7 @@ use mathlib.Core.List.{List, _++_}
 use Prim.Native.Nat.{ℕ, _/_}
 use lib.Dec.{eqb}
 use lib.ListN.{take, drop}
-use Rattle.registers.specs.Words.{pick}
+use Rattle.bits.specs.Words.{pick}
 use Rattle.words.specs.Words.{word}
 use Rattle.words.specs.Hex.{unhex}
 use Rattle.table.specs.Calls.{netAfterRead, netAfterReset, netAfterTimer, netAfterFresh}

@@ -10,7 +10,7 @@ use borrow.Author.Tests.{leb-true}
 use Rattle.card.specs.declared.packets.Shape.{Shape}
 use Rattle.card.specs.declared.packets.Shape.the-variants.{Malformed}
 use Rattle.card.specs.Packets.{shapeOf, dataBytes, CanBeSent, malformed}
-use Rattle.registers.proofs.Words.Bools.{and-right, pick-of}
+use Rattle.bits.proofs.Words.Bools.{and-right, pick-of}
 
 -- COUNT of a short packet, whatever byte 3 is and whatever the page; of a long one
 module _ (next : ℕ) (long : Bool) where

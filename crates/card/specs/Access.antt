@@ -4,7 +4,7 @@ use mathlib.Core.List.{List, _++_}
 use Prim.Native.Nat.{ℕ, _+_, _-_}
 use lib.Dec.{eqb}
 use lib.ListN.{getD, set, replicate}
-use Rattle.registers.specs.Words.{pick}
+use Rattle.bits.specs.Words.{pick}
 use Rattle.card.specs.Row.{registerBytes, rowBytes, mark, regsOf, putRegs}
 use Rattle.registers.specs.Registers.{pointer, readValue, afterRead, afterWrite, hardwareReset}
 

@@ -7,7 +7,7 @@ use Prim.Native.Nat.{ℕ, _+_}
 use lib.Dec.{eqb, leb, ltb}
 use lib.ListN.{length, getD}
 use Rattle.card.specs.declared.packets.Shape.{Shape}
-use Rattle.registers.specs.Words.{among}
+use Rattle.bits.specs.Words.{among}
 use Rattle.registers.specs.Layout.{at-id, at-long, writeChanges}
 use Rattle.card.specs.Row.{regsOf}
 use Rattle.card.specs.Access.{pointed}

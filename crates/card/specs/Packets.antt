@@ -9,7 +9,7 @@ use lib.ListN.{length, getD, take, drop, replicate, set}
 use Rattle.card.specs.declared.packets.Shape.{Shape}
 use Rattle.card.specs.declared.packets.Shape.the-variants.{Malformed, Short, Long}
 use Rattle.card.specs.declared.packets.Packet.{Packet}
-use Rattle.registers.specs.Words.{pick, clear}
+use Rattle.bits.specs.Words.{pick, clear}
 use Rattle.registers.specs.Numbers.{VALUE, Refusal, _when_, told}
 use Rattle.card.specs.Row.{registerBytes, regsOf}
 use Rattle.registers.specs.declared.regs.Regs.{Regs}

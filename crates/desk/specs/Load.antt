@@ -5,7 +5,7 @@ use mathlib.Core.List.{List, [], _∷_}
 use Prim.Native.Nat.{ℕ, zero, suc}
 use lib.Dec.{eqb}
 use lib.ListN.{length}
-use Rattle.registers.specs.Words.{pick, has}
+use Rattle.bits.specs.Words.{pick, has}
 use Rattle.registers.specs.Numbers.{Refusal, _when_, told}
 use Rattle.table.specs.Numbers.{ROOM}
 use Rattle.table.specs.Network.{rowStart}

@@ -5,7 +5,7 @@ use mathlib.Core.List.{List, [], _∷_}
 use Prim.Native.Nat.{ℕ, _+_, _*_, _/_, _%_}
 use lib.Dec.{eqb, leb, ltb}
 use lib.ListN.{length, getD, take, drop}
-use Rattle.registers.specs.Words.{pick, all}
+use Rattle.bits.specs.Words.{pick, all}
 use Rattle.table.specs.Folds.{every, some}
 use Rattle.table.specs.Network.{rowLimit}
 

@@ -11,9 +11,9 @@ use Rattle.line.specs.declared.traffic.Outcome.{Outcome}
 use Rattle.line.specs.declared.traffic.Outcome.the-variants.{Nothing, Malformed, Broadcast, NoAnswer, Nak, Delivered, Unacknowledged}
 use Rattle.line.specs.declared.step.Answer.{Answer}
 use Rattle.line.specs.declared.step.Answer.the-variants.{Refused, Quiet, Recovered, Passed, Unanswered, TokenLost, Held}
-use Rattle.registers.specs.Words.{pick, has, among}
+use Rattle.bits.specs.Words.{pick, has, among}
 use Rattle.registers.specs.Layout.{at-status, at-diagnostic, at-nid, at-transmit, at-receive}
-use Rattle.registers.specs.Flags.{TMA, TA}
+use Rattle.bits.specs.Flags.{TMA, TA}
 use Rattle.card.specs.Packets.{pageAt, malformed, pageShape, destination, storable}
 use Rattle.card.specs.Moves.{inPacket}
 use Rattle.registers.specs.Events.{heard, cancelled, sent, enquired, transmitting, receiving, transmitPage, receivePage}

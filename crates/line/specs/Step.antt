@@ -8,7 +8,7 @@ use Rattle.line.specs.declared.passes.Event.the-variants.{Recovery, Mess
 use Rattle.line.specs.declared.traffic.Outcome.{Outcome}
 use Rattle.line.specs.declared.step.Answer.{Answer}
 use Rattle.line.specs.declared.step.Answer.the-variants.{Refused, Quiet, Recovered, Passed, Unanswered, TokenLost, Held}
-use Rattle.registers.specs.Words.{pick}
+use Rattle.bits.specs.Words.{pick}
 use Rattle.registers.specs.Numbers.{VALUE, Refusal, _when_, told}
 use Rattle.registers.specs.Events.{risenNid}
 use Rattle.table.specs.Numbers.{SHAPE}

@@ -4,7 +4,7 @@ ghost use mathlib.Core.Path.{_≡_};
 ghost use mathlib.Core.Bool.{true, _&&_};
 ghost use Prim.Native.Nat.{_≤_};
 ghost use lib.ListN.{length};
-ghost use Rattle.registers.specs.Words.{pick};
+ghost use Rattle.bits.specs.Words.{pick};
 ghost use Rattle.card.specs.Row.{rowBytes, regsOf, wellFormed};
 ghost use Rattle.registers.specs.Events.{receiving};
 ghost use Rattle.card.specs.Packets.{storable};

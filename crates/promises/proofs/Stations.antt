@@ -7,9 +7,9 @@ use Prim.Native.Nat.{ℕ, _≤_, _<_}
 use native.Mathlib.Omega.{arith}
 use lib.Dec.{eqb}
 use borrow.Author.Tests.{eqb-true, eq-eqb, ne-eqb}
-use Rattle.registers.specs.Words.{among}
+use Rattle.bits.specs.Words.{among}
 use Rattle.registers.specs.Layout.{at-status, at-diagnostic, at-nid, at-transmit, at-receive}
-use Rattle.registers.proofs.Words.Bools.{pick-of}
+use Rattle.bits.proofs.Words.Bools.{pick-of}
 use Rattle.card.specs.Row.{registerBytes}
 use Rattle.card.specs.Packets.{pageAt}
 use Rattle.table.specs.Network.{Bytes, rows, phase, holder, LOST, PASS, regsAt, onLineAt, isNode, shape}

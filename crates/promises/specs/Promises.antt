@@ -5,7 +5,7 @@ use mathlib.Core.Bool.{Bool, true, false}
 use mathlib.Core.List.{List, [], _∷_}
 use Prim.Native.Nat.{ℕ, _+_, _*_, _≤_, _<_}
 use lib.ListN.{length, getD}
-use Rattle.registers.specs.Words.{among}
+use Rattle.bits.specs.Words.{among}
 use Rattle.registers.specs.Layout.{at-diagnostic, readChanges}
 use Rattle.registers.specs.Numbers.{Smallest}
 use Rattle.card.specs.Packets.{shapeOf, dataBytes, CanBeSent, malformed}

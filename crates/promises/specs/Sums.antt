@@ -8,8 +8,8 @@ use lib.ListN.{take}
 use Rattle.registers.specs.declared.regs.Regs.{Regs}
 use Rattle.card.specs.declared.packets.Shape.the-variants.{Malformed}
 use Rattle.registers.specs.declared.commands.Command.the-variants.{EnableTransmit, EnableReceive}
-use Rattle.registers.specs.Words.{has}
-use Rattle.registers.specs.Flags.{AUTO-INC, RESET}
+use Rattle.bits.specs.Words.{has}
+use Rattle.bits.specs.Flags.{AUTO-INC, RESET}
 use Rattle.registers.specs.Commands.{commandOf}
 use Rattle.registers.specs.Registers.{pointer, stepped, hardwareReset, configured}
 use Rattle.card.specs.Packets.{shapeOf, dataBytes}

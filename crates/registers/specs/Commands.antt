@@ -6,7 +6,7 @@ use lib.Bits.{bitAnd}
 use lib.Dec.{eqb}
 use Rattle.registers.specs.declared.commands.Command.{Command}
 use Rattle.registers.specs.declared.commands.Command.the-variants.{Illegal, DisableTransmitter, DisableReceiver, EnableTransmit, EnableReceive, LongPackets, ClearFlags}
-use Rattle.registers.specs.Words.{pick, has}
+use Rattle.bits.specs.Words.{pick, has}
 
 -- "Twenty command bytes are legal, in hex", in the order in which document 01 lists them
 abbrev pub legalBytes : List ℕ

@@ -4,8 +4,8 @@ use mathlib.Core.Bool.{Bool, false, not, _&&_}
 use Prim.Native.Nat.{ℕ, _+_, _%_}
 use lib.Dec.{eqb}
 use Rattle.registers.specs.declared.regs.Regs.{Regs}
-use Rattle.registers.specs.Words.{pick, clear, has, raise, raiseIf, lower}
-use Rattle.registers.specs.Flags.{RI, RECON, TMA, TA, MYRECON, DUPID, RCVACT, TOKEN, TENTID, CANCEL, BROADCASTS}
+use Rattle.bits.specs.Words.{pick, clear, has, raise, raiseIf, lower}
+use Rattle.bits.specs.Flags.{RI, RECON, TMA, TA, MYRECON, DUPID, RCVACT, TOKEN, TENTID, CANCEL, BROADCASTS}
 use Rattle.registers.specs.Fields.{with-status, with-diagnostic, with-nid, with-transmit, with-receive}
 use Rattle.registers.specs.Fit.{awake, onLine}
 

@@ -4,8 +4,8 @@ use mathlib.Core.Bool.{Bool, not, _&&_, _||_}
 use mathlib.Core.List.{List, [], _∷_, _++_}
 use lib.Dec.{eqb}
 use Rattle.registers.specs.declared.regs.Regs.{Regs}
-use Rattle.registers.specs.Words.{all, clear, has}
-use Rattle.registers.specs.Flags.{RI, TMA, TA, RESET, TXEN, LOW2, only, statusBits, diagnosticBits, maskBits, configurationBits, setupBits, modeBits, transmitBits, receiveBits}
+use Rattle.bits.specs.Words.{all, clear, has}
+use Rattle.bits.specs.Flags.{RI, TMA, TA, RESET, TXEN, LOW2, only, statusBits, diagnosticBits, maskBits, configurationBits, setupBits, modeBits, transmitBits, receiveBits}
 
 -- "Awake: ID not 0 and RESET clear. On line: awake and TXEN set."
 unfoldable pub awake : Regs → Bool

@@ -1,6 +1,4 @@
-pub mod Words
 pub mod Numbers
-pub mod Flags
 pub mod Fields
 pub mod Fit
 pub mod Commands

@@ -5,7 +5,7 @@ use mathlib.Core.Bool.{Bool, true, false, _&&_}
 use mathlib.Core.List.{List, [], _∷_}
 use Prim.Native.Nat.{ℕ, _≤_}
 use lib.Dec.{eqb, ltb}
-use Rattle.registers.specs.Words.{pick}
+use Rattle.bits.specs.Words.{pick}
 
 -- "0 DONE"
 abbrev pub DONE : ℕ

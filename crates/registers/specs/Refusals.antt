@@ -7,8 +7,8 @@ use lib.Dec.{eqb, ltb}
 use Rattle.registers.specs.declared.regs.Regs.{Regs}
 use Rattle.registers.specs.declared.commands.Command.{Command}
 use Rattle.registers.specs.declared.commands.Command.the-variants.{Illegal, DisableTransmitter, DisableReceiver, EnableTransmit, EnableReceive, LongPackets, ClearFlags}
-use Rattle.registers.specs.Words.{clear, has}
-use Rattle.registers.specs.Flags.{RI, TA, RDDATA, only, maskBits, configurationBits, setupBits, modeBits}
+use Rattle.bits.specs.Words.{clear, has}
+use Rattle.bits.specs.Flags.{RI, TA, RDDATA, only, maskBits, configurationBits, setupBits, modeBits}
 use Rattle.registers.specs.Numbers.{REGISTER, VALUE, NOTREADY, DIRECTION, BUSY, ONLINE, PAGE, Refusal, _when_, told}
 use Rattle.registers.specs.Fit.{awake, onLine}
 use Rattle.registers.specs.Commands.{commandOf}

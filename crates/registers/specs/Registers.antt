@@ -7,8 +7,8 @@ use lib.Dec.{eqb}
 use Rattle.registers.specs.declared.regs.Regs.{Regs}
 use Rattle.registers.specs.declared.commands.Command.{Command}
 use Rattle.registers.specs.declared.commands.Command.the-variants.{Illegal, DisableTransmitter, DisableReceiver, EnableTransmit, EnableReceive, LongPackets, ClearFlags}
-use Rattle.registers.specs.Words.{pick, clear, has, raise, lower}
-use Rattle.registers.specs.Flags.{RI, POR, RECON, TMA, TA, RESET, RDDATA, AUTO-INC, CANCEL, BROADCASTS}
+use Rattle.bits.specs.Words.{pick, clear, has, raise, lower}
+use Rattle.bits.specs.Flags.{RI, POR, RECON, TMA, TA, RESET, RDDATA, AUTO-INC, CANCEL, BROADCASTS}
 use Rattle.registers.specs.Fields.{with-id, with-status, with-diagnostic, with-mask, with-configuration, with-setup, with-tentative, with-high, with-low, with-mode, with-transmit, with-receive, with-long}
 use Rattle.registers.specs.Commands.{commandOf}
 

@@ -1,6 +1,6 @@
 // Document 01, "Numbers a caller may get": the card's own numbers, and how a call's refusals make the one that is told.
 ghost use mathlib.Core.Path.{_≡_};
-ghost use Rattle.registers.specs.Words.{pick};
+ghost use Rattle.bits.specs.Words.{pick};
 ghost use Rattle.registers.specs.Numbers.{refuse};
 
 pub const DONE: u8 = 0;

@@ -9,7 +9,7 @@ use native.Mathlib.Numerals.{add-one}
 use native.Mathlib.Omega.{arith}
 use borrow.Author.Tests.{ltb-true, ltb-false, le-ltb, not-true, not-false}
 use lib.Dec.{ltb}
-use Rattle.registers.proofs.Words.Bools.{cases, and-left, and-right, or-true, or-left, or-right, pick-of}
+use Rattle.bits.proofs.Words.Bools.{cases, and-left, and-right, or-true, or-left, or-right, pick-of}
 use Rattle.table.specs.Folds.{every, some, seek}
 
 pub clash : {b : Bool} → b ≡ true → b ≡ false → ⊥

@@ -7,7 +7,7 @@ use Prim.Native.Nat.{ℕ, zero, suc, _+_, _*_, _<_}
 use lib.Dec.{eqb, leb, ltb}
 use lib.ListN.{length, getD, set, take, drop}
 use Rattle.registers.specs.declared.regs.Regs.{Regs}
-use Rattle.registers.specs.Words.{pick, all}
+use Rattle.bits.specs.Words.{pick, all}
 use Rattle.card.specs.Row.{rowBytes, regsOf, putRegs, zeros, wellFormed}
 use Rattle.registers.specs.Fit.{onLine}
 use Rattle.card.specs.Moves.{OnlyAt}

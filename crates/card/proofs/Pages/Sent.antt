@@ -12,9 +12,9 @@ use lib.Seq.{ext-getD, getD-take, getD-drop, getD-set-same, getD-set-other}
 use Rattle.card.specs.declared.packets.Shape.{Shape}
 use Rattle.card.specs.declared.packets.Shape.the-variants.{Malformed, Short, Long}
 use Rattle.card.specs.declared.packets.Packet.{Packet}
-use Rattle.registers.specs.Words.{pick, clear}
+use Rattle.bits.specs.Words.{pick, clear}
 use Rattle.registers.specs.Numbers.{DONE, VALUE}
-use Rattle.registers.proofs.Words.Bools.{and-right, pick-of}
+use Rattle.bits.proofs.Words.Bools.{and-right, pick-of}
 use Rattle.registers.proofs.Told.Smallest.{refuse-passed}
 use Rattle.card.specs.Row.{rowBytes, regsOf}
 use Rattle.card.specs.Packets.{shapeOf, dataBytes, dataAt, pageBytes, pageAt, malformed, pageShape, destination, dataRefusals, pageData, packetAt, dataOf, stored, stamped}

@@ -13,10 +13,10 @@ use denote.Shadow.{shadow}
 use Rattle.card.specs.declared.packets.Shape.{Shape}
 use Rattle.card.specs.declared.packets.Shape.the-variants.{Malformed, Short, Long}
 use Rattle.card.specs.declared.packets.Packet.{Packet}
-use Rattle.registers.specs.Words.{pick, clear}
+use Rattle.bits.specs.Words.{pick, clear}
 use Rattle.card.specs.Row.{rowBytes, regsOf}
 use Rattle.card.specs.Packets.{shapeOf, dataBytes, dataAt, headBytes, pageBytes, pageAt, pageShape, malformed}
-use Rattle.registers.proofs.Words.Table.{by-table}
+use Rattle.bits.proofs.Words.Table.{by-table}
 use Rattle.card.proofs.packets.Shape as shape
 use Rattle.card.proofs.packets.Packet as packet
 

@@ -13,10 +13,10 @@ use lib.Seq.{length-take-le, getD-take, getD-drop}
 use Rattle.card.specs.declared.packets.Shape.{Shape}
 use Rattle.card.specs.declared.packets.Shape.the-variants.{Malformed, Short, Long}
 use Rattle.card.specs.declared.packets.Packet.{Packet}
-use Rattle.registers.specs.Words.{pick, clear}
+use Rattle.bits.specs.Words.{pick, clear}
 use Rattle.card.specs.Row.{regsOf}
 use Rattle.card.specs.Packets.{shapeOf, dataBytes, dataAt, headBytes, pageBytes, pageAt, pageShape, pageData, malformed, laid, headOf, dataOf, stored, stamped}
-use Rattle.registers.proofs.Words.Bools.{cases}
+use Rattle.bits.proofs.Words.Bools.{cases}
 use Rattle.card.proofs.Words.Laid.{length-part, length-laid, laid-below, laid-within, laid-above, laid-back}
 use Rattle.card.proofs.Pages.Sizes.{data-end, head-most, head-least, page-most}
 

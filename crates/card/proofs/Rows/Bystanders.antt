@@ -12,7 +12,7 @@ use Rattle.registers.specs.declared.regs.Regs.{Regs}
 use Rattle.card.specs.declared.packets.Shape.{Shape}
 use Rattle.card.specs.declared.packets.Shape.the-variants.{Malformed, Short, Long}
 use Rattle.card.specs.declared.packets.Packet.{Packet}
-use Rattle.registers.specs.Words.{clear}
+use Rattle.bits.specs.Words.{clear}
 use Rattle.registers.specs.Events.{received, receiving, receivePage}
 use Rattle.card.specs.Row.{rowBytes, regsOf, putRegs}
 use Rattle.card.specs.Packets.{dataAt, pageBytes, pageAt, stored, storable}

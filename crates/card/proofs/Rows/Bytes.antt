@@ -13,7 +13,7 @@ use Rattle.registers.specs.declared.regs.Regs.{Regs}
 use Rattle.card.specs.Row.{registerBytes, regsOf, putRegs, spare, zeros, marked, wellFormed}
 use Rattle.registers.specs.Layout.{bytesOf}
 use Rattle.registers.specs.Fit.{fit}
-use Rattle.registers.proofs.Words.Bools.{and-left, and-right}
+use Rattle.bits.proofs.Words.Bools.{and-left, and-right}
 
 -- ---- a run of stores: below it, above it, and in it
 module _ (k : ℕ) where

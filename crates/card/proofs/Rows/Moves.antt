@@ -12,9 +12,9 @@ use lib.ListN.{length, getD, set, length-set}
 use lib.Seq.{getD-set-other}
 use Rattle.registers.specs.declared.regs.Regs.{Regs}
 use Rattle.card.specs.declared.packets.Packet.{Packet}
-use Rattle.registers.specs.Words.{among}
+use Rattle.bits.specs.Words.{among}
 use Rattle.registers.specs.Layout.{at-id, at-long, readChanges, writeChanges}
-use Rattle.registers.proofs.Words.Bools.{cases, and-true, and-false, or-left, or-right, pick-of}
+use Rattle.bits.proofs.Words.Bools.{cases, and-true, and-false, or-left, or-right, pick-of}
 use Rattle.registers.proofs.Values.Keeps.{Keeps, keeps-read, keeps-write}
 use Rattle.card.specs.Row.{rowBytes, regsOf, putRegs}
 use Rattle.card.specs.Access.{pointed, rowAfterRead, ramWritten, rowAfterWrite}

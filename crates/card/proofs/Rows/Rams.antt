@@ -14,7 +14,7 @@ use Rattle.registers.specs.declared.regs.Regs.{Regs}
 use Rattle.card.specs.declared.packets.Packet.{Packet}
 use Rattle.card.specs.Row.{regsOf, putRegs}
 use Rattle.card.specs.Packets.{dataAt, headBytes, pageBytes, pageAt, pageShape, packetAt, stored, stamped}
-use Rattle.registers.proofs.Words.Bools.{cases}
+use Rattle.bits.proofs.Words.Bools.{cases}
 use Rattle.card.proofs.Rows.Bytes.{put-rest}
 use Rattle.card.proofs.Pages.Stored.{stored-outside, stored-gap, stored-data, stored-head}
 use Rattle.card.proofs.Pages.Packets.{Ram}

@@ -9,7 +9,7 @@ use lib.ListN.{length}
 use Rattle.card.specs.Row.{rowBytes, regsOf}
 use Rattle.registers.specs.Registers.{afterRead, afterWrite}
 use Rattle.card.specs.Access.{pointed, rowAfterRead, ramWritten, rowAfterWrite}
-use Rattle.registers.proofs.Words.Bools.{pick-of}
+use Rattle.bits.proofs.Words.Bools.{pick-of}
 use Rattle.card.proofs.Rows.Bytes.{regs-put}
 use Rattle.card.proofs.Pages.Packets.{Ram}
 use Rattle.card.proofs.Rows.Rams.{ram-put, ram-set}

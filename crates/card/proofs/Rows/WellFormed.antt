@@ -17,7 +17,7 @@ use Rattle.registers.specs.Registers.{afterRead, afterWrite, hardwareReset}
 use Rattle.registers.specs.Refusals.{writeNumber}
 use Rattle.card.specs.Access.{pointed, rowAfterRead, ramWritten, rowAfterWrite, rowAfterReset, freshRow}
 use Rattle.card.specs.Packets.{dataAt, pageBytes, pageAt, stored, stamped}
-use Rattle.registers.proofs.Words.Bools.{pick-of}
+use Rattle.bits.proofs.Words.Bools.{pick-of}
 use Rattle.card.proofs.Rows.Bytes.{regs-same, length-put, well-fit, well-same, well-put, regs-put}
 use Rattle.registers.proofs.Values.Fits.{Fit, fit-rules, rules-fit}
 use Rattle.card.proofs.Rows.Accesses.{length-ram}

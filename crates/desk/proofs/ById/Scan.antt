@@ -8,7 +8,7 @@ use Prim.Native.Nat.{ℕ, zero, suc, _+_, _%_, _<_, _≤_}
 use native.Mathlib.Nat.{add-zero}
 use native.Mathlib.Omega.{arith}
 use borrow.Author.Tests.{eq-eqb, ne-eqb}
-use Rattle.registers.proofs.Words.Bools.{and-false}
+use Rattle.bits.proofs.Words.Bools.{and-false}
 use Rattle.desk.proofs.ById.Ring.{Took, Missed, next, upd, heeds, turn, Runs, stop, go, calls, script}
 
 -- the last of g and the list

@@ -12,7 +12,7 @@ use lib.Dec.{eqb, leb, ltb}
 use lib.ListN.{length, getD, take, drop, length-drop, drop-of-length-le}
 use lib.Seq.{take-all, drop-cons, drop-drop, getD-drop}
 use borrow.Author.Tests.{eq-eqb, ne-eqb, ltb-true, ltb-false, lt-ltb, le-ltb, le-leb, lt-leb}
-use Rattle.registers.proofs.Words.Bools.{cases, and-false}
+use Rattle.bits.proofs.Words.Bools.{cases, and-false}
 use Rattle.desk.specs.Order.{recordBytes, records, recordAt, nameOf, printable, printables, spaces, trimmed, nameAt}
 
 -- ---- printing characters

@@ -9,7 +9,7 @@ use native.Mathlib.Omega.{arith}
 use lib.Dec.{eqb, leb, ltb, lit<}
 use lib.ListN.{length, getD}
 use borrow.Author.Tests.{eq-eqb, ltb-true, ltb-false, leb-true, not-true}
-use Rattle.registers.proofs.Words.Bools.{cases, and-five, holds}
+use Rattle.bits.proofs.Words.Bools.{cases, and-five, holds}
 use Rattle.table.specs.Network.{rowLimit}
 use Rattle.table.proofs.Folds.{clash, every-at, some-fails}
 use Rattle.desk.specs.Order.{recordBytes, records, recordAt, mark, idOf, flagsOf, nameOf, printables, recordFits, recordsFit, idAt, idsDiffer, orderFits}

@@ -12,8 +12,8 @@ use lib.ListN.{length, take, drop, set, length-set, length-append}
 use lib.Seq.{take-suc-set}
 use borrow.Author.Tests.{eqb-true, eqb-false, ltb-true, ltb-false}
 use Rattle.registers.specs.declared.regs.Regs.{Regs}
-use Rattle.registers.specs.Words.{pick}
-use Rattle.registers.proofs.Words.Bools.{cases}
+use Rattle.bits.specs.Words.{pick}
+use Rattle.bits.proofs.Words.Bools.{cases}
 use Rattle.line.specs.declared.step.Answer.{Answer}
 use Rattle.line.specs.declared.step.Answer.the-variants.{Refused, Quiet, Recovered, Passed, Unanswered, TokenLost, Held}
 use Rattle.table.specs.Network.{rows, regsAt}

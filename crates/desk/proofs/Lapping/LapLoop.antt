@@ -8,7 +8,7 @@ use native.Mathlib.Omega.{arith}
 use lib.Dec.{eqb}
 use lib.ListN.{length, take, drop, set}
 use Rattle.registers.specs.declared.regs.Regs.{Regs}
-use Rattle.registers.specs.Words.{pick}
+use Rattle.bits.specs.Words.{pick}
 use Rattle.line.specs.declared.step.Answer.{Answer}
 use Rattle.card.specs.Row.{rowBytes}
 use Rattle.table.specs.Network.{rowStart, rows, phase, LOST, regsAt, shape}

@@ -7,8 +7,8 @@ use Prim.Native.Nat.{ℕ, zero, suc, _+_, _*_, _-_, _<_, _≤_}
 use native.Mathlib.Nat.{add-zero, add-suc}
 use native.Mathlib.Omega.{arith}
 use lib.ListN.{length, length-append}
-use Rattle.registers.specs.Words.{pick}
-use Rattle.registers.proofs.Words.Bools.{and-left, pick-of}
+use Rattle.bits.specs.Words.{pick}
+use Rattle.bits.proofs.Words.Bools.{and-left, pick-of}
 use Rattle.table.specs.Network.{phase, LOST, shape}
 use Rattle.line.specs.Step.{step}
 use Rattle.desk.specs.declared.laps.Taker.{Taker}

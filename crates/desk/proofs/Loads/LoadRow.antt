@@ -6,7 +6,7 @@ use mathlib.Core.List.{List}
 use Prim.Native.Nat.{ℕ, _<_}
 use lib.Dec.{eqb}
 use Rattle.registers.specs.declared.regs.Regs.{Regs}
-use Rattle.registers.specs.Words.{pick, has}
+use Rattle.bits.specs.Words.{pick, has}
 use Rattle.registers.specs.Registers.{hardwareReset}
 use Rattle.registers.specs.Events.{burst}
 use Rattle.registers.proofs.Values.SameCard.{on-line-same, reset-off, same-burst}

@@ -9,7 +9,7 @@ use native.Mathlib.Omega.{arith}
 use lib.Bits.{bitAnd}
 use lib.ListN.{length}
 use borrow.Author.Tests.{eq-eqb, ne-eqb, not-true, not-false}
-use Rattle.registers.specs.Words.{pick, has}
+use Rattle.bits.specs.Words.{pick, has}
 use Rattle.table.specs.Network.{rows, shape}
 use Rattle.table.specs.Calls.{netAfterWrite, freshNumber, netAfterFresh, freshNet}
 use Rattle.table.proofs.Access.Fresh.{fresh-refused, fresh-room, fresh-net, header-fresh}

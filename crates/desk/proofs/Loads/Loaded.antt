@@ -16,7 +16,7 @@ use Rattle.registers.specs.Numbers.{DONE, told}
 use Rattle.registers.proofs.Told.Smallest.{refuse-held, refuse-passed, refuse-stays}
 use Rattle.table.specs.Numbers.{ROOM}
 use Rattle.card.specs.Access.{freshRow}
-use Rattle.registers.proofs.Words.Bools.{cases}
+use Rattle.bits.proofs.Words.Bools.{cases}
 use Rattle.card.proofs.Rows.WellFormed.{fresh-off}
 use Rattle.card.proofs.Rows.WellFormed.{regs-fresh}
 use Rattle.table.specs.Network.{rows, phase, LOST, rowAt, regsAt, onLineAt, isNode, shape, rowStart}

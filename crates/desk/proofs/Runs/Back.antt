@@ -8,7 +8,7 @@ use Prim.Native.Nat.{ℕ, zero, suc, _+_, _*_, _<_, _≤_}
 use native.Mathlib.Omega.{arith}
 use lib.ListN.{length}
 use borrow.Author.Tests.{eq-eqb}
-use Rattle.registers.proofs.Words.Bools.{cases}
+use Rattle.bits.proofs.Words.Bools.{cases}
 use Rattle.table.specs.Network.{rows, phase, holder, LOST, TAKEN, regsAt, isNode, topId, shape}
 use Rattle.line.specs.Step.{step, highest, answerValue}
 use Rattle.table.proofs.Folds.{seek-is, some-not}

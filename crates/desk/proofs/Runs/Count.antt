@@ -10,8 +10,8 @@ use native.Mathlib.Omega.{arith}
 use lib.ListN.{length}
 use lib.Dec.{eqb, ltb}
 use borrow.Author.Tests.{eqb-true, eqb-false, ltb-true, ltb-false}
-use Rattle.registers.specs.Words.{pick}
-use Rattle.registers.proofs.Words.Bools.{cases, and-right, or-false, or-true, pick-of}
+use Rattle.bits.specs.Words.{pick}
+use Rattle.bits.proofs.Words.Bools.{cases, and-right, or-false, or-true, pick-of}
 use Rattle.table.specs.Folds.{some}
 use Rattle.table.specs.Network.{regsAt, onLineAt, isNode, topId}
 use Rattle.table.proofs.Folds.{clash, some-none, some-more, some-not}

@@ -9,7 +9,7 @@ use native.Mathlib.Omega.{arith}
 use lib.Dec.{eqb, ltb}
 use lib.ListN.{length}
 use borrow.Author.Tests.{eqb-true, eqb-false, ltb-true, ltb-false}
-use Rattle.registers.proofs.Words.Bools.{cases}
+use Rattle.bits.proofs.Words.Bools.{cases}
 use Rattle.table.specs.Network.{rows, phase, holder, regsAt, onLineAt, shape}
 use Rattle.line.specs.Step.{step, invited, taker, answerValue}
 use Rattle.table.proofs.Shaped.Shapes.{shape-ids}

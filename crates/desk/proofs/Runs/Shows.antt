@@ -8,7 +8,7 @@ use Prim.Native.Nat.{ℕ, _<_, _≤_}
 use native.Mathlib.Omega.{arith}
 use lib.Dec.{eqb}
 use borrow.Author.Tests.{ne-eqb, eqb-false}
-use Rattle.registers.proofs.Words.Bools.{cases, and-false}
+use Rattle.bits.proofs.Words.Bools.{cases, and-false}
 use Rattle.table.specs.Network.{rows, phase, holder, PASS, TAKEN, regsAt, onLineAt, isNode, shape}
 use Rattle.line.specs.Step.{invited, taker}
 use Rattle.table.proofs.Folds.{clash, some-at, some-not}

@@ -4,8 +4,8 @@ use mathlib.Core.Path.{_≡_, refl, ap, _∙_}
 use mathlib.Core.Bool.{Bool, true, false}
 use mathlib.Core.List.{List, [], _∷_, _++_, map}
 use Prim.Native.Nat.{ℕ, zero, suc, _+_}
-use Rattle.registers.specs.Words.{pick}
-use Rattle.registers.proofs.Words.Bools.{pick-of}
+use Rattle.bits.specs.Words.{pick}
+use Rattle.bits.proofs.Words.Bools.{pick-of}
 use Rattle.line.specs.declared.step.Answer.{Answer}
 use Rattle.line.specs.declared.step.Answer.the-variants.{Refused, Quiet, Recovered, Passed, Unanswered, TokenLost, Held}
 use Rattle.table.specs.Network.{regsAt}

@@ -6,7 +6,7 @@ use mathlib.Core.List.{List, [], _∷_, _++_, map}
 use Prim.Native.Nat.{ℕ, zero, suc, _+_, _*_, _%_, _≤_}
 use native.Mathlib.Omega.{arith}
 use lib.ListN.{length, length-append, length-map}
-use Rattle.registers.specs.Words.{pick}
+use Rattle.bits.specs.Words.{pick}
 use Rattle.table.specs.Network.{rows, phase, holder, LOST, TAKEN, shape}
 use Rattle.line.specs.Step.{highest}
 use Rattle.table.proofs.Shaped.Shapes.{shape-ids}

@@ -7,12 +7,12 @@ use Prim.Native.Nat.{ℕ, _+_, _≤_}
 use lib.Dec.{eqb}
 use Rattle.registers.specs.declared.regs.Regs.{Regs}
 use Rattle.card.specs.declared.packets.Packet.{Packet}
-use Rattle.registers.specs.Words.{pick}
+use Rattle.bits.specs.Words.{pick}
 use Rattle.card.specs.Row.{rowBytes, regsOf, putRegs, wellFormed}
 use Rattle.card.specs.Packets.{pageAt, pageBytes, stored}
 use Rattle.registers.specs.Events.{received, receiving, takesBroadcasts, receivePage}
 use Rattle.card.specs.Packets.{storable}
-use Rattle.registers.proofs.Words.Bools.{and-left, and-right}
+use Rattle.bits.proofs.Words.Bools.{and-left, and-right}
 use Rattle.card.proofs.Rows.Bytes.{well-fit}
 use Rattle.registers.proofs.Values.Fits.{fit-rules}
 use Rattle.card.proofs.Pages.Waiting.{receive-room}

@@ -10,7 +10,7 @@ use Rattle.registers.specs.declared.regs.Regs.{Regs}
 use Rattle.card.specs.declared.packets.Packet.{Packet}
 use Rattle.line.specs.declared.passes.Event.{Event}
 use Rattle.line.specs.declared.passes.Event.the-variants.{Recovery, Message, Taken}
-use Rattle.registers.specs.Words.{pick}
+use Rattle.bits.specs.Words.{pick}
 use Rattle.card.specs.Packets.{dataAt, stamped}
 use Rattle.registers.specs.Events.{heard, risenNid, cancelled, sent, enquired, transmitting, receiving, transmitPage}
 use Rattle.card.specs.Packets.{storable}

@@ -8,7 +8,7 @@ use native.Mathlib.Omega.{arith}
 use lib.ListN.{length}
 use Rattle.line.specs.declared.passes.Event.the-variants.{Recovery, Message, Taken}
 use Rattle.card.specs.Row.{rowBytes, regsOf, wellFormed}
-use Rattle.registers.proofs.Words.Bools.{and-left, and-right}
+use Rattle.bits.proofs.Words.Bools.{and-left, and-right}
 use Rattle.table.specs.Network.{rows, phase, holder, TAKEN, rowAt, regsAt, shape, SameFrame}
 use Rattle.table.proofs.Rows.Networks.{length-turned, rowAt-turned, turned-other}
 use Rattle.table.proofs.Shaped.Shapes.{shape-row, shape-row-length}

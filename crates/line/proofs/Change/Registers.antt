@@ -13,7 +13,7 @@ use Rattle.line.specs.declared.passes.Event.the-variants.{Recovery, Mess
 use Rattle.card.specs.Row.{rowBytes, regsOf, putRegs, wellFormed}
 use Rattle.registers.specs.Fit.{onLine}
 use Rattle.registers.specs.Events.{heard, risenNid, received, cancelled, sent, enquired}
-use Rattle.registers.proofs.Words.Bools.{pick-of}
+use Rattle.bits.proofs.Words.Bools.{pick-of}
 use Rattle.card.proofs.Rows.Bytes.{regs-put}
 use Rattle.registers.proofs.Values.Fits.{Fit}
 use Rattle.registers.proofs.Values.FitEvents.{fit-heard, fit-answered, fit-recovered, fit-risen, fit-received, fit-cancelled, fit-sent}

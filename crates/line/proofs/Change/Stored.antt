@@ -11,7 +11,7 @@ use Rattle.card.specs.Row.{rowBytes, regsOf, wellFormed}
 use Rattle.card.specs.Packets.{dataAt, pageBytes, pageAt, stored}
 use Rattle.registers.specs.Events.{received, receiving, receivePage}
 use Rattle.card.specs.Packets.{storable}
-use Rattle.registers.proofs.Words.Bools.{and-left, and-right, pick-of}
+use Rattle.bits.proofs.Words.Bools.{and-left, and-right, pick-of}
 use Rattle.card.proofs.Rows.Bytes.{length-put, well-fit}
 use Rattle.registers.proofs.Values.Fits.{fit-rules}
 use Rattle.card.proofs.Pages.Waiting.{receive-room}

@@ -10,12 +10,12 @@ use lib.ListN.{length}
 use borrow.Author.Tests.{eqb-true, eqb-false, eq-eqb}
 use Rattle.line.specs.declared.passes.Event.{Event}
 use Rattle.line.specs.declared.passes.Event.the-variants.{Recovery, Message, Taken}
-use Rattle.registers.specs.Words.{pick, among}
+use Rattle.bits.specs.Words.{pick, among}
 use Rattle.registers.specs.Layout.{at-status, at-diagnostic, at-nid}
 use Rattle.registers.specs.Events.{risenNid}
 use Rattle.card.specs.Row.{rowBytes, regsOf}
 use Rattle.card.specs.Moves.{OnlyAt}
-use Rattle.registers.proofs.Words.Bools.{or-left, or-right, or-false, pick-of, pick-both}
+use Rattle.bits.proofs.Words.Bools.{or-left, or-right, or-false, pick-of, pick-both}
 use Rattle.registers.proofs.Values.Keeps.{Keeps, keeps-same, keeps-recovered, keeps-heard, keeps-answered, keeps-risen}
 use Rattle.card.proofs.Rows.Moves.{only-stays, only-wider, only-put}
 use Rattle.table.specs.Network.{phase, holder, LOST, PASS, TAKEN, onRegs, shape}

@@ -12,12 +12,12 @@ use Rattle.registers.specs.declared.regs.Regs.{Regs}
 use Rattle.card.specs.declared.packets.Packet.{Packet}
 use Rattle.line.specs.declared.passes.Event.{Event}
 use Rattle.line.specs.declared.passes.Event.the-variants.{Recovery, Message, Taken}
-use Rattle.registers.specs.Words.{pick}
+use Rattle.bits.specs.Words.{pick}
 use Rattle.registers.specs.Events.{receiving}
 use Rattle.card.specs.Row.{rowBytes, regsOf, putRegs, wellFormed}
 use Rattle.card.specs.Packets.{stored}
 use Rattle.card.specs.Moves.{OnlyAt}
-use Rattle.registers.proofs.Words.Bools.{or-false, pick-of}
+use Rattle.bits.proofs.Words.Bools.{or-false, pick-of}
 use Rattle.registers.proofs.Values.Listens.{Listens, listens-same, listens-recovered, listens-heard, listens-answered, reached-risen}
 use Rattle.card.proofs.Rows.Bytes.{regs-put}
 use Rattle.card.proofs.Rows.Moves.{only-stays, only-then, only-wider}

@@ -14,7 +14,7 @@ use Rattle.line.specs.declared.step.Answer.the-variants.{Refused, Quiet,
 use Rattle.registers.specs.Events.{cancelled, transmitting}
 use Rattle.card.specs.Packets.{malformed}
 use Rattle.card.specs.Moves.{OnlyAt}
-use Rattle.registers.proofs.Words.Bools.{cases, and-false, pick-of}
+use Rattle.bits.proofs.Words.Bools.{cases, and-false, pick-of}
 use Rattle.table.specs.Network.{rows, phase, holder, LOST, PASS, TAKEN, rowAt, regsAt, topId, shape}
 use Rattle.table.proofs.Online.Nodes.{nodeOf-found}
 use Rattle.table.proofs.Shaped.Shapes.{shape-phase}

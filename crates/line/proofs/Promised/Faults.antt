@@ -14,7 +14,7 @@ use Rattle.line.specs.declared.step.Answer.the-variants.{Held}
 use Rattle.card.specs.Packets.{malformed, pageShape, destination}
 use Rattle.registers.specs.Events.{cancelled, transmitting, receiving, transmitPage}
 use Rattle.card.specs.Packets.{storable}
-use Rattle.registers.proofs.Words.Bools.{cases, pick-of, pick-both}
+use Rattle.bits.proofs.Words.Bools.{cases, pick-of, pick-both}
 use Rattle.table.specs.Network.{rows, phase, holder, LOST, PASS, rowAt, regsAt, nodeOf}
 use Rattle.line.specs.Traffic.{Turn, onRow, wentOut, broadcastTurn, packetTurn, enquiryTurn, tryTurn, takenTurn}
 use Rattle.line.specs.Step.{taker, passTurn, held, stepTurn, stepRefusals, stepNumber, step}

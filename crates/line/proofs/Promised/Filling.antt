@@ -9,13 +9,13 @@ use lib.Dec.{eqb}
 use lib.ListN.{length}
 use borrow.Author.Tests.{ne-eqb}
 use Rattle.card.specs.declared.packets.Packet.{Packet}
-use Rattle.registers.specs.Words.{among}
+use Rattle.bits.specs.Words.{among}
 use Rattle.registers.specs.Layout.{at-status, at-diagnostic, at-receive}
 use Rattle.registers.specs.Events.{receiving, receivePage}
 use Rattle.card.specs.Row.{rowBytes, regsOf, wellFormed}
 use Rattle.card.specs.Packets.{pageBytes, pageAt, stored, storable}
 use Rattle.card.specs.Moves.{OnlyAt, inPacket}
-use Rattle.registers.proofs.Words.Bools.{and-left, and-right, or-left, or-right}
+use Rattle.bits.proofs.Words.Bools.{and-left, and-right, or-left, or-right}
 use Rattle.registers.proofs.Values.Fits.{Fit, fit-rules}
 use Rattle.registers.proofs.Values.Keeps.{keeps-received}
 use Rattle.registers.proofs.Values.Ends.{transmit-page-small}

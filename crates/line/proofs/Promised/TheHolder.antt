@@ -16,13 +16,13 @@ use Rattle.line.specs.declared.passes.Event.the-variants.{Recovery, Mess
 use Rattle.line.specs.declared.traffic.Outcome.{Outcome}
 use Rattle.line.specs.declared.traffic.Outcome.the-variants.{Nothing, Malformed, Broadcast, NoAnswer, Nak, Delivered, Unacknowledged}
 use Rattle.line.specs.declared.step.Answer.the-variants.{Held}
-use Rattle.registers.specs.Words.{pick, among}
+use Rattle.bits.specs.Words.{pick, among}
 use Rattle.registers.specs.Layout.{at-status, at-diagnostic, at-transmit, at-receive}
 use Rattle.registers.specs.Events.{heard, cancelled, sent, transmitting, receiving, takesBroadcasts}
 use Rattle.card.specs.Row.{rowBytes, regsOf, putRegs}
 use Rattle.card.specs.Packets.{pageAt, storable}
 use Rattle.card.specs.Moves.{OnlyAt}
-use Rattle.registers.proofs.Words.Bools.{cases, and-left, and-right, or-left, or-right, pick-of}
+use Rattle.bits.proofs.Words.Bools.{cases, and-left, and-right, or-left, or-right, pick-of}
 use Rattle.registers.proofs.Values.Fits.{Fit}
 use Rattle.registers.proofs.Values.FitEvents.{fit-cancelled}
 use Rattle.registers.proofs.Values.Keeps.{Keeps, keeps-same, keeps-cancelled, keeps-enquired, keeps-heard-sent, keeps-sent}

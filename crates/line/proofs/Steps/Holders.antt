@@ -8,7 +8,7 @@ use Prim.Native.Nat.{ℕ, _<_}
 use native.Mathlib.Omega.{arith}
 use lib.Dec.{ltb}
 use borrow.Author.Tests.{ltb-true, ltb-false}
-use Rattle.registers.proofs.Words.Bools.{cases}
+use Rattle.bits.proofs.Words.Bools.{cases}
 use Rattle.table.specs.Network.{rows, holder, topId}
 use Rattle.line.specs.Step.{highest, invited, taker}
 use Rattle.table.proofs.Online.Nodes.{node-online, nodeOf-found, nodeOf-most, nodeOf-fails, topId-nobody}

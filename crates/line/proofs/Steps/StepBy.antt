@@ -12,7 +12,7 @@ use Rattle.line.specs.declared.passes.Event.the-variants.{Recovery, Mess
 use Rattle.line.specs.declared.step.Answer.{Answer}
 use Rattle.line.specs.declared.step.Answer.the-variants.{Refused, Quiet, Recovered, Passed, Unanswered, TokenLost, Held}
 use Rattle.registers.specs.Events.{risenNid}
-use Rattle.registers.proofs.Words.Bools.{pick-of}
+use Rattle.bits.proofs.Words.Bools.{pick-of}
 use Rattle.table.specs.Network.{rows, phase, holder, LOST, PASS, TAKEN, topId, shape, SameFrame}
 use Rattle.line.specs.Traffic.{Turn}
 use Rattle.line.specs.Step.{destroyed, highest, lostTurn, invited, taker, passTurn, stepTurn, stepNumber, step}

@@ -15,7 +15,7 @@ use Rattle.registers.proofs.Told.Smallest.{refuse-passed}
 use Rattle.table.specs.Numbers.{SHAPE}
 use Rattle.line.specs.Numbers.{HOLDER}
 use Rattle.registers.specs.Events.{risenNid}
-use Rattle.registers.proofs.Words.Bools.{cases, pick-of}
+use Rattle.bits.proofs.Words.Bools.{cases, pick-of}
 use Rattle.table.specs.Network.{rows, phase, holder, LOST, PASS, TAKEN, turned, topId, shape, onLineAt}
 use Rattle.line.specs.Traffic.{Turn, onRow, happened, takenTurn}
 use Rattle.line.specs.Step.{highest, lostTurn, invited, taker, passTurn, held, stepTurn, stepRefusals, stepNumber, step, answerValue}

@@ -13,7 +13,7 @@ use Rattle.line.specs.declared.step.Answer.{Answer}
 use Rattle.line.specs.declared.step.Answer.the-variants.{Refused}
 use Rattle.registers.specs.Fit.{onLine}
 use Rattle.registers.specs.Numbers.{DONE, VALUE, refuse}
-use Rattle.registers.proofs.Words.Bools.{cases, pick-of}
+use Rattle.bits.proofs.Words.Bools.{cases, pick-of}
 use Rattle.registers.proofs.Told.Smallest.{refuse-held, refuse-passed, refuse-stays, none-refuses}
 use Rattle.table.specs.Numbers.{SHAPE}
 use Rattle.line.specs.Numbers.{HOLDER}

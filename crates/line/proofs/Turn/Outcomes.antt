@@ -12,7 +12,7 @@ use Rattle.card.specs.declared.packets.Shape.{Shape}
 use Rattle.line.specs.declared.passes.Event.the-variants.{Message}
 use Rattle.line.specs.declared.traffic.Outcome.{Outcome}
 use Rattle.line.specs.declared.traffic.Outcome.the-variants.{Broadcast, NoAnswer, Nak, Delivered, Unacknowledged}
-use Rattle.registers.specs.Words.{pick}
+use Rattle.bits.specs.Words.{pick}
 use Rattle.card.specs.Packets.{pageShape}
 use Rattle.card.specs.Row.{putRegs}
 use Rattle.registers.specs.Events.{heard, sent, enquired, receiving}

@@ -12,7 +12,7 @@ use Rattle.line.specs.declared.traffic.Outcome.{Outcome}
 use Rattle.line.specs.declared.traffic.Outcome.the-variants.{Nothing, Malformed, Broadcast, NoAnswer, Nak, Delivered, Unacknowledged}
 use Rattle.registers.specs.Events.{cancelled, transmitting, receiving, takesBroadcasts}
 use Rattle.card.specs.Packets.{malformed, storable}
-use Rattle.registers.proofs.Words.Bools.{cases, and-false, or-false}
+use Rattle.bits.proofs.Words.Bools.{cases, and-false, or-false}
 use Rattle.registers.proofs.Values.Listens.{takes-receives}
 use Rattle.table.specs.Network.{rows, phase, holder, TAKEN, regsAt}
 use Rattle.line.specs.Traffic.{damaged}

@@ -12,11 +12,11 @@ use Rattle.card.specs.declared.packets.Shape.{Shape}
 use Rattle.line.specs.declared.passes.Event.the-variants.{Message}
 use Rattle.line.specs.declared.traffic.Outcome.{Outcome}
 use Rattle.line.specs.declared.traffic.Outcome.the-variants.{Nothing, Malformed, Broadcast, NoAnswer, Nak, Delivered, Unacknowledged}
-use Rattle.registers.specs.Words.{pick}
+use Rattle.bits.specs.Words.{pick}
 use Rattle.registers.specs.Events.{cancelled, transmitting, receiving, transmitPage}
 use Rattle.card.specs.Row.{regsOf}
 use Rattle.card.specs.Packets.{malformed, pageShape, destination, packetAt, storable}
-use Rattle.registers.proofs.Words.Bools.{and-left, and-right, or-false, pick-of}
+use Rattle.bits.proofs.Words.Bools.{and-left, and-right, or-false, pick-of}
 use Rattle.registers.proofs.Values.Ends.{transmit-page-small}
 use Rattle.card.proofs.Rows.Rams.{packet-bytes}
 use Rattle.card.proofs.Pages.Packets.{packet-full, packet-count}

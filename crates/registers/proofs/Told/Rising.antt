@@ -8,7 +8,7 @@ use lib.Dec.{ltb}
 use Rattle.registers.specs.declared.regs.Regs.{Regs}
 use Rattle.registers.specs.Numbers.{PAGE, Refusal, _when_, risesFrom}
 use Rattle.registers.specs.Refusals.{readRefusals, writeRefusals}
-use Rattle.registers.proofs.Words.Bools.{and-left, and-right}
+use Rattle.bits.proofs.Words.Bools.{and-left, and-right}
 
 -- the last number of a list, n where it is empty
 abbrev lastFrom : ℕ → List Refusal → ℕ

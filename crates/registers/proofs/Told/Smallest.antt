@@ -8,9 +8,9 @@ use Prim.Native.Nat.{ℕ, _<_}
 use native.Mathlib.Omega.{arith}
 use borrow.Author.Tests.{eq-eqb, ne-eqb, eqb-true, eqb-false, ltb-true}
 use lib.Dec.{eqb, ltb}
-use Rattle.registers.specs.Words.{pick}
+use Rattle.bits.specs.Words.{pick}
 use Rattle.registers.specs.Numbers.{DONE, Refusal, _when_, refuse, toldAfter, told, risesFrom, rises, refuses, Smallest}
-use Rattle.registers.proofs.Words.Bools.{and-false, cases, and-left, and-right}
+use Rattle.bits.proofs.Words.Bools.{and-false, cases, and-left, and-right}
 
 -- ---- one refusal: it is told, it does not hold, or a number told before it stands
 pub refuse-held : (k : ℕ) (t : Bool) → t ≡ true → refuse DONE k t ≡ k

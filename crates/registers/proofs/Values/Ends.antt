@@ -5,11 +5,11 @@ use mathlib.Core.Bool.{Bool, true, false, not, false≢true}
 use borrow.Author.Tests.{eqb-true}
 use lib.Dec.{lit<, eqb}
 use Rattle.registers.specs.declared.regs.Regs.{Regs}
-use Rattle.registers.specs.Words.{clear, has, raise, lower}
-use Rattle.registers.specs.Flags.{RI, TMA, TA, CANCEL}
+use Rattle.bits.specs.Words.{clear, has, raise, lower}
+use Rattle.bits.specs.Flags.{RI, TMA, TA, CANCEL}
 use Rattle.registers.specs.Events.{heard, received, transmitCancelled, receiveCancelled, cancelled, sent, transmitting, transmitPage, receiving, enquired, receivePage}
-use Rattle.registers.proofs.Words.Bools.{or-first, pick-of}
-use Rattle.registers.proofs.Words.Masks.{lower-clears, raise-other, raise-sets}
+use Rattle.bits.proofs.Words.Bools.{or-first, pick-of}
+use Rattle.bits.proofs.Words.Masks.{lower-clears, raise-other, raise-sets}
 use Rattle.registers.proofs.Values.Fits.{Fit}
 use Prim.Native.Nat.{_<_, _%_}
 use native.Mathlib.Omega.{arith}

@@ -6,12 +6,12 @@ use Prim.Native.Nat.{ℕ, _+_, _-_, _<_}
 use lib.Bits.{bitAnd}
 use lib.Dec.{eqb}
 use Rattle.registers.specs.declared.regs.Regs.{Regs}
-use Rattle.registers.specs.Words.{pick, clear, has, raise, lower}
-use Rattle.registers.specs.Flags.{RI, TMA, TA, CANCEL, BROADCASTS, LOW2, only, statusBits, diagnosticBits, maskBits, configurationBits, setupBits, modeBits, transmitBits, receiveBits}
+use Rattle.bits.specs.Words.{pick, clear, has, raise, lower}
+use Rattle.bits.specs.Flags.{RI, TMA, TA, CANCEL, BROADCASTS, LOW2, only, statusBits, diagnosticBits, maskBits, configurationBits, setupBits, modeBits, transmitBits, receiveBits}
 use Rattle.registers.specs.Fields.{with-id, with-status, with-diagnostic, with-mask, with-configuration, with-setup, with-tentative, with-nid, with-high, with-low, with-mode, with-transmit, with-receive, with-long}
-use Rattle.registers.proofs.Words.Bools.{or-true}
-use Rattle.registers.proofs.Words.Table.{by-table}
-use Rattle.registers.proofs.Words.Masks.{lower-other, lower-clears, raise-other}
+use Rattle.bits.proofs.Words.Bools.{or-true}
+use Rattle.bits.proofs.Words.Table.{by-table}
+use Rattle.bits.proofs.Words.Masks.{lower-other, lower-clears, raise-other}
 use Rattle.registers.proofs.Values.Fits.{Fit}
 
 -- the bits 1-0 alone are within any byte that has them

@@ -10,16 +10,16 @@ use lib.Dec.{eqb, ltb}
 use Rattle.registers.specs.declared.regs.Regs.{Regs}
 use Rattle.registers.specs.declared.commands.Command.{Command}
 use Rattle.registers.specs.declared.commands.Command.the-variants.{Illegal, DisableTransmitter, DisableReceiver, EnableTransmit, EnableReceive, LongPackets, ClearFlags}
-use Rattle.registers.specs.Words.{pick, clear, has, lower}
-use Rattle.registers.specs.Flags.{RI, POR, RECON, TMA, TA, LOW2, AUTO-INC, RESET, only, statusBits, maskBits, configurationBits, setupBits, modeBits}
+use Rattle.bits.specs.Words.{pick, clear, has, lower}
+use Rattle.bits.specs.Flags.{RI, POR, RECON, TMA, TA, LOW2, AUTO-INC, RESET, only, statusBits, maskBits, configurationBits, setupBits, modeBits}
 use Rattle.registers.specs.Fields.{with-status, with-configuration}
 use Rattle.registers.specs.Fit.{fit}
 use Rattle.registers.specs.Commands.{pageOf, commandOf}
 use Rattle.registers.specs.Registers.{sub, risen, stepped, afterRead, hardwareReset, configured, commanded, seventhWritten, afterWrite}
 use Rattle.registers.specs.Numbers.{REGISTER, VALUE, BUSY, PAGE, refuses}
 use Rattle.registers.specs.Refusals.{noRegister, illegal, badValue, busy, oddPage, writeRefusals, writeNumber}
-use Rattle.registers.proofs.Words.Bools.{or-left, or-right, or-five, pick-of}
-use Rattle.registers.proofs.Words.Table.{by-table}
+use Rattle.bits.proofs.Words.Bools.{or-left, or-right, or-five, pick-of}
+use Rattle.bits.proofs.Words.Table.{by-table}
 use Rattle.registers.proofs.Told.Smallest.{none-refuses}
 use Rattle.registers.proofs.Values.Fits.{Fit}
 use Rattle.registers.proofs.Values.FitBytes as keeps

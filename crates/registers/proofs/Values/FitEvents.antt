@@ -6,13 +6,13 @@ use Prim.Native.Nat.{ℕ, _+_, _-_, _%_}
 use lib.Bits.{bitAnd}
 use lib.Dec.{eqb, lit<}
 use Rattle.registers.specs.declared.regs.Regs.{Regs}
-use Rattle.registers.specs.Words.{pick, clear, raise, raiseIf, lower}
-use Rattle.registers.specs.Flags.{RI, RECON, TMA, TA, MYRECON, DUPID, RCVACT, TOKEN, TENTID, CANCEL, only, statusBits, diagnosticBits}
+use Rattle.bits.specs.Words.{pick, clear, raise, raiseIf, lower}
+use Rattle.bits.specs.Flags.{RI, RECON, TMA, TA, MYRECON, DUPID, RCVACT, TOKEN, TENTID, CANCEL, only, statusBits, diagnosticBits}
 use Rattle.registers.specs.Fields.{with-status, with-nid, with-transmit}
 use Rattle.registers.specs.Fit.{awake, onLine}
 use Rattle.registers.specs.Events.{burst, recovered, heard, answered, risenNid, received, transmitCancelled, cancelled, sent}
-use Rattle.registers.proofs.Words.Bools.{pick-of}
-use Rattle.registers.proofs.Words.Masks.{lower-other, raise-other, raise-sets}
+use Rattle.bits.proofs.Words.Bools.{pick-of}
+use Rattle.bits.proofs.Words.Masks.{lower-other, raise-other, raise-sets}
 use Rattle.registers.proofs.Values.Fits.{Fit}
 use Rattle.registers.proofs.Values.FitBytes as keeps
 

@@ -5,10 +5,10 @@ use mathlib.Core.Bool.{true, not, _||_}
 use mathlib.Core.List.{_++_}
 use lib.Dec.{eqb, lit<}
 use Rattle.registers.specs.declared.regs.Regs.{Regs}
-use Rattle.registers.specs.Words.{clear, has}
-use Rattle.registers.specs.Flags.{RI, TMA, TA, LOW2, only, statusBits, diagnosticBits, maskBits, configurationBits, setupBits, modeBits, transmitBits, receiveBits}
+use Rattle.bits.specs.Words.{clear, has}
+use Rattle.bits.specs.Flags.{RI, TMA, TA, LOW2, only, statusBits, diagnosticBits, maskBits, configurationBits, setupBits, modeBits, transmitBits, receiveBits}
 use Rattle.registers.specs.Fit.{named, agree, fit}
-use Rattle.registers.proofs.Words.Bools.{holds}
+use Rattle.bits.proofs.Words.Bools.{holds}
 
 pub record Fit (g : Regs) : Type 0 where
   pub status : only statusBits (g .status) ≡ true

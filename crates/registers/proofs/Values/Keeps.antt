@@ -10,15 +10,15 @@ use lib.Seq.{getD-set-other}
 use Rattle.registers.specs.declared.regs.Regs.{Regs}
 use Rattle.registers.specs.declared.commands.Command.{Command}
 use Rattle.registers.specs.declared.commands.Command.the-variants.{Illegal, DisableTransmitter, DisableReceiver, EnableTransmit, EnableReceive, LongPackets, ClearFlags}
-use Rattle.registers.specs.Words.{pick, clear, has, raise, among}
-use Rattle.registers.specs.Flags.{RESET, AUTO-INC, CANCEL, BROADCASTS}
+use Rattle.bits.specs.Words.{pick, clear, has, raise, among}
+use Rattle.bits.specs.Flags.{RESET, AUTO-INC, CANCEL, BROADCASTS}
 use Rattle.registers.specs.Fields.{with-diagnostic, with-mask, with-nid, with-low, with-transmit, with-receive, with-long}
 use Rattle.registers.specs.Commands.{commandOf}
 use Rattle.registers.specs.Registers.{sub, risen, stepped, afterRead, softwareReset, configured, commanded, seventhWritten, afterWrite}
 use Rattle.registers.specs.Fit.{onLine}
 use Rattle.registers.specs.Layout.{at-id, at-status, at-diagnostic, at-mask, at-configuration, at-high, at-low, at-nid, at-transmit, at-receive, at-long, bytesOf, readChanges, writeChanges}
 use Rattle.registers.specs.Events.{burst, recovered, heard, answered, risenNid, received, transmitCancelled, cancelled, sent, enquired}
-use Rattle.registers.proofs.Words.Bools.{pick-of, pick-both}
+use Rattle.bits.proofs.Words.Bools.{pick-of, pick-both}
 
 -- the registers h are those of g but for the bytes l
 pub record Keeps (l : List ℕ) (g h : Regs) : Type 0 where

@@ -10,11 +10,11 @@ use lib.ListN.{getD}
 use Rattle.registers.specs.declared.commands.Command.{Command}
 use Rattle.registers.specs.declared.commands.Command.the-variants.{Illegal, DisableTransmitter, DisableReceiver, EnableTransmit, EnableReceive, LongPackets, ClearFlags}
 use Rattle.registers.specs.declared.commands.Legal.{Legal}
-use Rattle.registers.specs.Words.{pick}
+use Rattle.bits.specs.Words.{pick}
 use Rattle.registers.specs.Commands.{commandOf, legalBytes}
 use Rattle.registers.specs.Refusals.{illegal}
-use Rattle.registers.proofs.Words.Table.{tab, entry, by-table}
-use Rattle.registers.proofs.Words.Bools.{and-left, and-right}
+use Rattle.bits.proofs.Words.Table.{tab, entry, by-table}
+use Rattle.bits.proofs.Words.Bools.{and-left, and-right}
 
 is-illegal : (k : Command) → illegal k ≡ true → k ≡ Illegal
 is-illegal Illegal h = refl

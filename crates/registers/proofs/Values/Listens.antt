@@ -4,13 +4,13 @@ use mathlib.Core.Path.{_≡_, refl, _∙_}
 use mathlib.Core.Bool.{Bool, true, _&&_}
 use Prim.Native.Nat.{ℕ}
 use Rattle.registers.specs.declared.regs.Regs.{Regs}
-use Rattle.registers.specs.Words.{clear, has}
-use Rattle.registers.specs.Flags.{RI, RECON, BROADCASTS}
+use Rattle.bits.specs.Words.{clear, has}
+use Rattle.bits.specs.Flags.{RI, RECON, BROADCASTS}
 use Rattle.registers.specs.Fields.{with-status, with-diagnostic, with-nid}
 use Rattle.registers.specs.Fit.{awake}
 use Rattle.registers.specs.Events.{recovered, heard, answered, risenNid, receiving, takesBroadcasts, receivePage}
-use Rattle.registers.proofs.Words.Bools.{and-left, and-right, pick-of}
-use Rattle.registers.proofs.Words.Masks.{raise-other}
+use Rattle.bits.proofs.Words.Bools.{and-left, and-right, pick-of}
+use Rattle.bits.proofs.Words.Masks.{raise-other}
 use Rattle.registers.proofs.Values.SameCard.{awake-same}
 
 -- what says whether a card is awake, and where it stores a packet

@@ -8,14 +8,14 @@ use lib.Dec.{eqb, lit<}
 use Rattle.registers.specs.declared.regs.Regs.{Regs}
 use Rattle.registers.specs.declared.commands.Command.{Command}
 use Rattle.registers.specs.declared.commands.Command.the-variants.{Illegal, DisableTransmitter, DisableReceiver, EnableTransmit, EnableReceive, LongPackets, ClearFlags}
-use Rattle.registers.specs.Words.{pick, clear, has}
-use Rattle.registers.specs.Flags.{AUTO-INC, RESET, CANCEL}
+use Rattle.bits.specs.Words.{pick, clear, has}
+use Rattle.bits.specs.Flags.{AUTO-INC, RESET, CANCEL}
 use Rattle.registers.specs.Fields.{with-configuration}
 use Rattle.registers.specs.Fit.{awake, onLine}
 use Rattle.registers.specs.Commands.{commandOf}
 use Rattle.registers.specs.Registers.{sub, stepped, afterRead, hardwareReset, configured, commanded, writesId, seventhWritten, afterWrite}
 use Rattle.registers.specs.Events.{burst, recovered, heard, answered, risenNid, received, transmitCancelled, receiveCancelled, cancelled, sent}
-use Rattle.registers.proofs.Words.Bools.{pick-of, cases}
+use Rattle.bits.proofs.Words.Bools.{pick-of, cases}
 use mathlib.Core.Logic.{⊎-elim}
 
 -- h is the card that g was, in the same configuration, with the same NID and tentative ID

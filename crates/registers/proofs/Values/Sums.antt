@@ -6,8 +6,8 @@ use Prim.Native.Nat.{ℕ}
 use borrow.Author.Tests.{not-true}
 use Rattle.registers.specs.declared.regs.Regs.{Regs}
 use Rattle.registers.specs.declared.commands.Command.the-variants.{EnableTransmit, EnableReceive}
-use Rattle.registers.specs.Words.{clear, has}
-use Rattle.registers.specs.Flags.{AUTO-INC, RESET}
+use Rattle.bits.specs.Words.{clear, has}
+use Rattle.bits.specs.Flags.{AUTO-INC, RESET}
 use Rattle.registers.specs.Commands.{commandOf}
 use Rattle.registers.specs.Registers.{pointer, stepped, hardwareReset, configured}
 use Rattle.registers.specs.Events.{risenNid}

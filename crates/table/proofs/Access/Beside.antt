@@ -11,7 +11,7 @@ use Rattle.card.specs.Row.{rowBytes}
 use Rattle.registers.specs.Registers.{hardwareReset}
 use Rattle.card.specs.Access.{rowAfterRead, rowAfterWrite, rowAfterReset}
 use Rattle.registers.specs.Events.{burst}
-use Rattle.registers.proofs.Words.Bools.{pick-of}
+use Rattle.bits.proofs.Words.Bools.{pick-of}
 use Rattle.card.proofs.Rows.Bytes.{length-put}
 use Rattle.card.proofs.Rows.WellFormed.{length-read, length-write}
 use Rattle.table.specs.Network.{headerBytes, rowStart, rows, phase, LOST, turned, rowAt, setRow, onRegs, regsAt, onLineAt, shape}

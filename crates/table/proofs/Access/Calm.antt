@@ -14,7 +14,7 @@ use Rattle.registers.specs.Fit.{onLine}
 use Rattle.registers.specs.Registers.{hardwareReset}
 use Rattle.card.specs.Access.{rowAfterRead, rowAfterWrite, rowAfterReset}
 use Rattle.registers.specs.Events.{burst}
-use Rattle.registers.proofs.Words.Bools.{and-left, pick-of}
+use Rattle.bits.proofs.Words.Bools.{and-left, pick-of}
 use Rattle.card.proofs.Rows.Bytes.{length-put, regs-put}
 use Rattle.registers.proofs.Values.SameCard.{on-line-same, same-burst}
 use Rattle.card.proofs.Rows.WellFormed.{length-read, length-write}

@@ -13,7 +13,7 @@ use borrow.Rule.Slice.PartMut.{midOf, putMid}
 use Rattle.registers.specs.Numbers.{DONE, VALUE, refuse, refuses}
 use Rattle.card.specs.Row.{rowBytes}
 use Rattle.card.specs.Access.{freshRow}
-use Rattle.registers.proofs.Words.Bools.{or-right, or-left}
+use Rattle.bits.proofs.Words.Bools.{or-right, or-left}
 use Rattle.registers.proofs.Told.Smallest.{refuse-held, refuse-passed, refuse-stays, none-refuses}
 use Rattle.card.proofs.Rows.WellFormed.{length-fresh}
 use Rattle.table.specs.Numbers.{ROOM}

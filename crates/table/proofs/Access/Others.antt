@@ -9,12 +9,12 @@ use native.Mathlib.Omega.{arith}
 use lib.Dec.{eqb, ltb}
 use lib.ListN.{length, getD}
 use borrow.Author.Tests.{eqb-true, ne-eqb, ltb-true, ltb-false}
-use Rattle.registers.specs.Words.{among}
+use Rattle.bits.specs.Words.{among}
 use Rattle.registers.specs.Fit.{onLine}
 use Rattle.registers.specs.Registers.{hardwareReset}
 use Rattle.registers.specs.Layout.{at-diagnostic, readChanges}
 use Rattle.registers.specs.Events.{burst}
-use Rattle.registers.proofs.Words.Bools.{cases, or-left, or-right, pick-of}
+use Rattle.bits.proofs.Words.Bools.{cases, or-left, or-right, pick-of}
 use Rattle.registers.proofs.Values.SameCard.{reset-off}
 use Rattle.registers.proofs.Values.Keeps.{keeps-burst}
 use Rattle.card.specs.Row.{rowBytes, regsOf}

@@ -14,7 +14,7 @@ use Rattle.registers.specs.Registers.{afterWrite}
 use Rattle.registers.specs.Refusals.{writeRefusals, writeNumber}
 use Rattle.card.specs.Access.{rowAfterWrite, rowAfterReset}
 use Rattle.registers.specs.Events.{burst}
-use Rattle.registers.proofs.Words.Bools.{and-assoc}
+use Rattle.bits.proofs.Words.Bools.{and-assoc}
 use Rattle.registers.proofs.Told.Smallest.{told-append}
 use Rattle.table.specs.Numbers.{DUPLICATE}
 use Rattle.table.specs.Network.{rows, phase, holder, LOST, turned, regsAt, onLineAt, nodeOf, shape, rowAt, setRow}

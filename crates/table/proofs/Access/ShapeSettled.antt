@@ -12,7 +12,7 @@ use borrow.Author.Tests.{eq-eqb, ne-eqb}
 use Rattle.card.specs.Row.{rowBytes, regsOf, wellFormed}
 use Rattle.registers.specs.Fit.{onLine}
 use Rattle.registers.specs.Events.{burst}
-use Rattle.registers.proofs.Words.Bools.{pick-of}
+use Rattle.bits.proofs.Words.Bools.{pick-of}
 use Rattle.card.proofs.Rows.Bytes.{length-put}
 use Rattle.table.specs.Network.{headerBytes, rowStart, rows, phase, holder, LOST, turned, rowAt, setRow, onRegs, onLineAt, isNode, shape}
 use Rattle.table.specs.Calls.{isHolder, settled}

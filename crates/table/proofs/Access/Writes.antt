@@ -17,7 +17,7 @@ use Rattle.registers.specs.Registers.{afterWrite}
 use Rattle.registers.specs.Refusals.{writeNumber}
 use Rattle.card.specs.Access.{rowAfterWrite}
 use Rattle.registers.specs.Events.{burst}
-use Rattle.registers.proofs.Words.Bools.{cases, and-false}
+use Rattle.bits.proofs.Words.Bools.{cases, and-false}
 use Rattle.card.proofs.Rows.Bytes.{regs-put, length-put}
 use Rattle.card.proofs.Rows.WellFormed.{length-write}
 use Rattle.table.specs.Numbers.{DUPLICATE}

@@ -9,9 +9,9 @@ use native.Mathlib.Numerals.{add-one}
 use lib.Dec.{eqb, ltb}
 use borrow.Author.Tests.{eqb-true, eqb-false, eq-eqb, ne-eqb, not-true}
 use Rattle.registers.specs.declared.regs.Regs.{Regs}
-use Rattle.registers.specs.Words.{pick}
+use Rattle.bits.specs.Words.{pick}
 use Rattle.registers.specs.Fit.{onLine}
-use Rattle.registers.proofs.Words.Bools.{and-left, and-right, and-true, pick-of}
+use Rattle.bits.proofs.Words.Bools.{and-left, and-right, and-true, pick-of}
 use Rattle.registers.proofs.Values.SameCard.{on-line-id}
 use Rattle.table.specs.Folds.{seek}
 use Rattle.table.specs.Network.{rowAt, regsAt, onLineAt, isNode, nodeOf, topId}

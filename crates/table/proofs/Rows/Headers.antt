@@ -10,7 +10,7 @@ use lib.ListN.{length, getD, take, drop, length-drop}
 use lib.Seq.{length-take-le, getD-take, getD-drop, ext-getD}
 use borrow.Author.Tests.{eqb-true, eq-eqb, ltb-true, lt-ltb, leb-true, le-leb, not-false}
 use Rattle.card.specs.Row.{zeros}
-use Rattle.registers.proofs.Words.Bools.{holds}
+use Rattle.bits.proofs.Words.Bools.{holds}
 use Rattle.table.specs.Network.{headerBytes, mark, rowLimit, rows, phase, rowStart, headerFits}
 
 -- the tests of `headerFits`

@@ -11,7 +11,7 @@ use lib.Seq.{length-take-le, getD-append-add, getD-take, getD-drop, getD-set-sam
 use borrow.Author.Tests.{ltb-true, ltb-false}
 use borrow.Rule.Slice.PartMut.{midOf, putMid}
 use Rattle.card.specs.Row.{rowBytes}
-use Rattle.registers.proofs.Words.Bools.{cases}
+use Rattle.bits.proofs.Words.Bools.{cases}
 use Rattle.table.specs.Network.{headerBytes, rows, phase, holder, turned, rowStart, rowAt, setRow}
 
 -- ---- a list with ys in the place of the k elements from the a-th on

@@ -10,7 +10,7 @@ use lib.Dec.{ltb}
 use lib.ListN.{length, List·getD-eq-default}
 use borrow.Author.Tests.{ltb-true, ltb-false}
 use Rattle.card.specs.Row.{rowBytes}
-use Rattle.registers.proofs.Words.Bools.{cases}
+use Rattle.bits.proofs.Words.Bools.{cases}
 use Rattle.card.proofs.Pages.Packets.{Ram}
 use Rattle.card.proofs.Rows.Rams.{Small, id-byte}
 use Rattle.table.specs.Network.{Bytes, rowStart, rows, turned, rowAt, regsAt, onLineAt, shape}

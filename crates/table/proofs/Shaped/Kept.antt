@@ -11,7 +11,7 @@ use lib.ListN.{length, getD}
 use borrow.Author.Tests.{eqb-true, eqb-false}
 use Rattle.card.specs.Row.{rowBytes, regsOf, wellFormed}
 use Rattle.registers.specs.Fit.{onLine}
-use Rattle.registers.proofs.Words.Bools.{cases}
+use Rattle.bits.proofs.Words.Bools.{cases}
 use Rattle.table.specs.Network.{headerBytes, rows, phase, holder, LOST, turned, rowAt, setRow, regsAt, onLineAt, isNode, shape}
 use Rattle.table.proofs.Folds.{clash}
 use Rattle.table.proofs.Rows.Networks.{length-setRow, setRow-header, rowAt-setRow, rowAt-setRow-other, length-turned, rowAt-turned, turned-other, rows-turned, phase-turned, holder-turned}

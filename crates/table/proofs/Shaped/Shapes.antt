@@ -10,7 +10,7 @@ use lib.Dec.{eqb, leb, ltb}
 use lib.ListN.{length}
 use borrow.Author.Tests.{eqb-true, eqb-false, eq-eqb, ne-eqb, ltb-true, ltb-false, lt-ltb, le-leb, not-true}
 use Rattle.card.specs.Row.{rowBytes, wellFormed}
-use Rattle.registers.proofs.Words.Bools.{cases, and-left, and-right, and-five}
+use Rattle.bits.proofs.Words.Bools.{cases, and-left, and-right, and-five}
 use Rattle.table.specs.Folds.{some}
 use Rattle.table.specs.Network.{headerBytes, rowLimit, rows, phase, holder, LOST, rowStart, rowAt, regsAt, onLineAt, isNode, headerFits, rowsFit, idsDiffer, holderFits, shape}
 use Rattle.table.proofs.Folds.{clash, every-at, every-of, some-fails, some-not}

@@ -2,7 +2,7 @@
 -- Assumes nothing.
 use mathlib.Core.Bool.{Bool}
 use Prim.Native.Nat.{ℕ, _+_, _-_, _^_}
-use Rattle.registers.specs.Words.{clear}
+use Rattle.bits.specs.Words.{clear}
 
 -- "Status: RI 7, POR 4, TEST 3 (always 0), RECON 2, TMA 1, TA 0"
 abbrev pub RI : ℕ
@@ -39,7 +39,7 @@ EXCNAK = 2 ^ 3
 abbrev pub TENTID : ℕ
 TENTID = 2 ^ 2
 
--- "Configuration: RESET 7, CCHEN 6 (refused when 1), TXEN 5, ET1 4, ET2 3, BACKPLANE 2, sub-address 1-0"
+-- "Configuration: RESET 7, CCHEN 6, TXEN 5, ET1 4, ET2 3, BACKPLANE 2, sub-address 1-0"
 abbrev pub RESET : ℕ
 RESET = 2 ^ 7
 
@@ -80,9 +80,6 @@ diagnosticBits = MYRECON + DUPID + RCVACT + TOKEN + TENTID
 -- "Mask write: bits 7, 3, 2, 0"
 abbrev pub maskBits : ℕ
 maskBits = RI + EXCNAK + RECON + TA
-
-abbrev pub configurationBits : ℕ
-configurationBits = 255 - CCHEN
 
 -- "10 setup (bits 2-0)"
 abbrev pub setupBits : ℕ

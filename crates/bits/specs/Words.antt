@@ -30,7 +30,7 @@ clear f x = eqb (bitAnd x f) 0
 abbrev pub has : ℕ → ℕ → Bool
 has f x = not (clear f x)
 
--- the byte x with the bits f set to 1; so where b holds; with the bits f set to 0
+-- the byte x with the bits f set to 1; so where b holds; with the bits f set to 0; with them set to 1 where b holds, and to 0 where not
 abbrev pub raise : ℕ → ℕ → ℕ
 raise f x = bitOr x f
 
@@ -39,3 +39,6 @@ raiseIf b f x = pick b (raise f x) x
 
 abbrev pub lower : ℕ → ℕ → ℕ
 lower f x = bitAnd x (255 - f)
+
+abbrev pub setTo : Bool → ℕ → ℕ → ℕ
+setTo b f x = pick b (raise f x) (lower f x)

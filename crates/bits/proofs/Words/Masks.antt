@@ -1,14 +1,14 @@
 -- Flags of a byte: what is kept, set and cleared by a mask. With these two laws every fact about named bits is computed.
 -- Assumes nothing.
-use mathlib.Core.Path.{_≡_, refl, _∙_, ap}
-use mathlib.Core.Bool.{true, false}
+use mathlib.Core.Path.{_≡_, refl, sym, _∙_, ap}
+use mathlib.Core.Bool.{Bool, true, false, true≢false}
 use Prim.Native.Nat.{ℕ, zero, suc, _-_, _/_, _%_, _<_}
 use native.Mathlib.Omega.{arith}
-use borrow.Author.Tests.{eq-eqb, ne-eqb}
+use borrow.Author.Tests.{eqb-true, eq-eqb, ne-eqb}
 use lib.Arith.{bin-ind}
 use lib.Bits.{bitAnd, bitOr, and-shr, or-shr, and-mod, or-mod, or-add-and, and-le-l, and-zero-r, or-zero-r}
 use lib.Dec.{eqb}
-use Rattle.registers.specs.Words.{clear, raise, lower}
+use Rattle.bits.specs.Words.{clear, has, raise, lower, setTo}
 
 by-halves : (x y : ℕ) → x / 2 ≡ y / 2 → x % 2 ≡ y % 2 → x ≡ y
 by-halves x y h o = omega arith
@@ -56,8 +56,11 @@ and-or =
 -- ---- the flags f of a byte x after other flags m were set or cleared
 module _ (f m x : ℕ) where
   -- clearing leaves the flags that it does not name, and no other
+  pub lower-to : (k : ℕ) → bitAnd (255 - m) f ≡ k → clear f (lower m x) ≡ clear k x
+  lower-to k e = ap (λ (y : ℕ). eqb y 0) (and-assoc x (255 - m) f ∙ ap (bitAnd x) e)
+
   pub lower-other : bitAnd (255 - m) f ≡ f → clear f (lower m x) ≡ clear f x
-  lower-other e = ap (λ (y : ℕ). eqb y 0) (and-assoc x (255 - m) f ∙ ap (bitAnd x) e)
+  lower-other e = lower-to f e
 
   pub lower-clears : bitAnd (255 - m) f ≡ 0 → clear f (lower m x) ≡ true
   lower-clears e = eq-eqb _ _ (and-assoc x (255 - m) f ∙ ap (bitAnd x) e ∙ and-zero-r x)
@@ -71,3 +74,18 @@ module _ (f m x : ℕ) where
       let l = and-le-l (bitAnd x f) (bitAnd m f) in
       let p : 0 < bitAnd (bitOr x m) f = rw (and-or x m f) (omega arith) in
       ne-eqb (bitAnd (bitOr x m) f) 0 (λ e. omega arith)
+
+  -- flags that are set to 1 or to 0 leave the others
+  pub set-other : (b : Bool) → bitAnd m f ≡ 0 → bitAnd (255 - m) f ≡ f → clear f (setTo b m x) ≡ clear f x
+  set-other true r l = raise-other r
+  set-other false r l = lower-other l
+
+-- a byte with no bit of f has none of those of m, which are among them
+pub clear-within : (f m x : ℕ) → bitAnd f m ≡ m → clear f x ≡ true → clear m x ≡ true
+clear-within f m x e h =
+    let z : bitAnd x f ≡ 0 = eqb-true _ _ h in
+    eq-eqb _ _ (ap (bitAnd x) (sym e) ∙ sym (and-assoc x f m) ∙ ap (λ (y : ℕ). bitAnd y m) z)
+
+-- a byte with some bit is not 0
+pub nonzero : (m x : ℕ) → has m x ≡ true → eqb x 0 ≡ false
+nonzero m x h = ne-eqb x 0 (λ e. true≢false (sym h ∙ rw e))

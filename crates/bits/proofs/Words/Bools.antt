@@ -7,7 +7,7 @@ use mathlib.Core.Logic.{_⊎_, inl, inr}
 use Prim.Native.Nat.{ℕ, zero, suc, _<_}
 use native.Mathlib.Omega.{arith}
 use lib.ListN.{length, getD}
-use Rattle.registers.specs.Words.{pick, all, allAfter}
+use Rattle.bits.specs.Words.{pick, all, allAfter}
 
 pub cases : (a : Bool) → (a ≡ true) ⊎ (a ≡ false)
 cases true = inl refl
@@ -59,6 +59,11 @@ or-right false b h = h
 pub or-first : (a b : Bool) → (a || b) ≡ true → b ≡ false → a ≡ true
 or-first true b h e = refl
 or-first false b h e = cc
+
+pub or-between : (a b c : Bool) → (a || c) ≡ true → (a || b || c) ≡ true
+or-between true b c h = refl
+or-between false true c h = refl
+or-between false false c h = h
 
 pub or-five : (a b c d e : Bool) → (a || b || c || d || e) ≡ false → (a ≡ false) × (b ≡ false) × (c ≡ false) × (d ≡ false) × (e ≡ false)
 or-five a b c d e h =

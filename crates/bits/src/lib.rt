@@ -1,0 +1,3 @@
+// The bits of a card's registers by their names, and a choice between two bytes.
+pub mod choice;
+pub mod flags;

@@ -1,0 +1,144 @@
+-- What the changes of a side leave: the flags of the status that are not its own; and what an end and the cancels make of TA, or RI, of TMA, and of what waits.
+-- Assumes nothing.
+use mathlib.Core.Path.{_≡_, refl, sym, _∙_, ap}
+use mathlib.Core.Bool.{Bool, true, false, not, _&&_, _||_}
+use Prim.Native.Nat.{ℕ, _+_, _-_}
+use lib.Bits.{bitAnd}
+use lib.Dec.{lit<}
+use Rattle.queues.specs.declared.queues.Way.{Way}
+use Rattle.queues.specs.declared.queues.Way.the-variants.{Transmit, Receive}
+use Rattle.queues.specs.declared.queues.Side.{Side}
+use Rattle.queues.specs.Queues.{freeFlag, waiting, secondFlag, two, uncleared, KEPT, stored, shows, completed, cleared, lowered, enabled, disabled, gone, ended, secondCancelled, cancelled}
+use Rattle.bits.specs.Words.{pick, clear, has, raise, raiseIf, lower, setTo}
+use Rattle.bits.specs.Flags.{TMA, TA, RI, CANCEL, LOW2}
+use Rattle.bits.proofs.Words.Bools.{pick-of}
+use Rattle.bits.proofs.Words.Masks.{lower-other, lower-clears, raise-other, raise-sets, set-other}
+use Rattle.queues.proofs.Fits.{Agrees}
+use Rattle.queues.proofs.Going.{behind-waits, shows-free}
+
+-- ---- the flags m that no change of the side speaks of
+abbrev pub Apart : Way → ℕ → Type 0
+Apart Transmit m =
+    (bitAnd TA m ≡ 0) × (bitAnd TMA m ≡ 0) × (bitAnd (255 - TA) m ≡ m) × (bitAnd (255 - TMA) m ≡ m) × (bitAnd (255 - (TA + TMA)) m ≡ m)
+Apart Receive m = (bitAnd RI m ≡ 0) × (bitAnd (255 - RI) m ≡ m)
+
+module _ (m x : ℕ) where
+  raised : (w : Way) → Apart w m → clear m (raise (freeFlag w) x) ≡ clear m x
+  raised Transmit p = raise-other m TA x (p .0)
+  raised Receive p = raise-other m RI x (p .0)
+
+  lowers : (w : Way) (s : Side) → Apart w m → clear m (lower (lowered w (s .queue)) x) ≡ clear m x
+  lowers Transmit s p =
+      pick-of (λ (k : ℕ). clear m (lower k x) ≡ clear m x) (uncleared (s .queue)) (λ _. lower-other m TA x (p .2)) (λ _. lower-other m (TA + TMA) x (p .4))
+  lowers Receive s p = lower-other m RI x (p .1)
+
+  showing : (w : Way) (b : Bool) → Apart w m → clear m (shows w b x) ≡ clear m x
+  showing Transmit b p = set-other m TMA x b (p .1) (p .3)
+  showing Receive b p = refl
+
+raised-free : (w : Way) (x : ℕ) → clear (freeFlag w) (raise (freeFlag w) x) ≡ false
+raised-free Transmit x = raise-sets TA TA x (lit< tt)
+raised-free Receive x = raise-sets RI RI x (lit< tt)
+
+module _ (w : Way) (m : ℕ) (p : Apart w m) (s : Side) where
+  abbrev Left : Side → Type 0
+  Left t = clear m (t .status) ≡ clear m (s .status)
+
+  gone-apart : Left (gone w s)
+  gone-apart = pick-of Left (two w (s .queue)) (λ _. refl) (λ _. raised m (s .status) w p)
+
+  completed-apart : (c b : Bool) → Left (completed w c b s)
+  completed-apart c b = pick-of Left (c && uncleared (s .queue)) (λ _. refl) (λ _. showing m (s .status) w b p)
+
+  pub enabled-apart : (c : Bool) (entry : ℕ) → Left (enabled w c entry s)
+  unfolding enabled
+  enabled-apart c entry = pick-of Left (c && waiting w s) (λ _. refl) (λ _. lowers m (s .status) w s p)
+
+  pub disabled-apart : Left (disabled w s)
+  unfolding disabled
+  disabled-apart = pick-of Left (waiting w s) (λ _. pick-of Left (two w (s .queue) && has CANCEL (s .queue .oldest)) (λ _. refl) (λ _. refl)) (λ _. refl)
+
+  pub cleared-apart : Left (cleared w s)
+  unfolding cleared
+  cleared-apart = pick-of Left (uncleared (s .queue)) (λ _. showing m (s .status) w (has KEPT (s .queue .done)) p) (λ _. refl)
+
+module _ (w : Way) (m : ℕ) (p : Apart w m) (s : Side) where
+  pub ended-apart : (c b : Bool) → Left w m p s (ended w c b s)
+  unfolding ended
+  ended-apart c b = gone-apart w m p (completed w c b s) ∙ completed-apart w m p s c b
+
+  pub cancelled-apart : Left w m p s (cancelled w s)
+  unfolding cancelled
+  cancelled-apart = pick-of (Left w m p s) (clear CANCEL (s .queue .oldest)) (λ _. refl) (λ _. gone-apart w m p (secondCancelled s))
+
+-- ---- an end of the oldest
+module _ (w : Way) (c b : Bool) (s : Side) where
+  -- TA, or RI, is 1 where none waits behind it; else the second has moved up. It is told in a chaining row
+  pub record Ended (t : Side) : Type 0 where
+    pub free : clear (freeFlag w) (t .status) ≡ two w (s .queue)
+    pub oldest : t .queue .oldest ≡ pick (two w (s .queue)) (lower (secondFlag w) (s .queue .second)) 0
+    pub told : uncleared (t .queue) ≡ (c || uncleared (s .queue))
+
+  -- what a completion leaves, and tells
+  record Tells (t : Side) : Type 0 where
+    free : clear (freeFlag w) (t .status) ≡ clear (freeFlag w) (s .status)
+    second : t .queue .second ≡ s .queue .second
+    told : uncleared (t .queue) ≡ (c || uncleared (s .queue))
+
+  tells : Tells (completed w c b s)
+  tells = split c (uncleared (s .queue)) refl refl
+    where
+      kept : (w : Way) (b : Bool) → has LOW2 (stored w b) ≡ true
+      kept Transmit true = refl
+      kept Transmit false = refl
+      kept Receive b = refl
+
+      split : (d u : Bool) → c ≡ d → uncleared (s .queue) ≡ u → Tells (completed w c b s)
+      split true true e i = rw (e, i) (record { free = refl; second = refl; told = kept w b })
+      split true false e i = rw (e, i) (record { free = shows-free w b (s .status); second = refl; told = refl })
+      split false u e i = rw e (record { free = shows-free w b (s .status); second = refl; told = refl })
+
+  pub is-ended : {l : ℕ} → Agrees w c l s → Ended (ended w c b s)
+  unfolding ended
+  is-ended a =
+      let k = completed w c b s in
+      split (two w (k .queue)) refl (ap (has (secondFlag w)) (tells .second))
+    where
+      split : (d : Bool) → two w (completed w c b s .queue) ≡ d → two w (completed w c b s .queue) ≡ two w (s .queue) → Ended (gone w (completed w c b s))
+      split true e i =
+          let t : two w (s .queue) ≡ true = sym i ∙ e in
+          rw e (record { free = tells .free ∙ behind-waits w s a t ∙ sym t; oldest = rw (t, tells .second); told = tells .told })
+      split false e i =
+          let t : two w (s .queue) ≡ false = sym i ∙ e in
+          rw e (record { free = raised-free w (completed w c b s .status) ∙ sym t; oldest = rw t; told = tells .told })
+
+-- TMA: that of the end, but where another is shown
+gone-tma : (s : Side) → clear TMA (gone Transmit s .status) ≡ clear TMA (s .status)
+gone-tma s = pick-of (λ (t : Side). clear TMA (t .status) ≡ clear TMA (s .status)) (two Transmit (s .queue)) (λ _. refl) (λ _. raise-other TMA TA (s .status) refl)
+
+set-is : (x : ℕ) (b : Bool) → has TMA (setTo b TMA x) ≡ b
+set-is x true = ap not (raise-sets TMA TMA x (lit< tt))
+set-is x false = ap not (lower-clears TMA TMA x refl)
+
+pub ended-tma : (c b : Bool) (s : Side) → has TMA (ended Transmit c b s .status) ≡ pick (c && uncleared (s .queue)) (has TMA (s .status)) b
+unfolding ended
+ended-tma c b s = ap not (gone-tma (completed Transmit c b s)) ∙ split (c && uncleared (s .queue)) refl
+  where
+    split : (d : Bool) → (c && uncleared (s .queue)) ≡ d → has TMA (completed Transmit c b s .status) ≡ pick d (has TMA (s .status)) b
+    split true e = rw e
+    split false e = rw e (set-is (s .status) b)
+
+-- ---- the cancels leave TMA, and tell of no end
+module _ (s : Side) where
+  pub cancelled-tma : clear TMA (cancelled Transmit s .status) ≡ clear TMA (s .status)
+  unfolding cancelled
+  cancelled-tma =
+      pick-of (λ (t : Side). clear TMA (t .status) ≡ clear TMA (s .status)) (clear CANCEL (s .queue .oldest)) (λ _. refl) (λ _. gone-tma (secondCancelled s))
+
+  gone-done : (w : Way) → gone w s .queue .done ≡ s .queue .done
+  gone-done w = pick-of (λ (t : Side). t .queue .done ≡ s .queue .done) (two w (s .queue)) (λ _. refl) (λ _. refl)
+
+pub cancelled-done : (w : Way) (s : Side) → cancelled w s .queue .done ≡ s .queue .done
+unfolding cancelled
+cancelled-done w s =
+    pick-of (λ (t : Side). t .queue .done ≡ s .queue .done) (clear CANCEL (s .queue .oldest)) (λ _. refl) (λ _. gone-done (secondCancelled s) w)

@@ -1,0 +1,4 @@
+pub mod Fits
+pub mod Going
+pub mod Changes
+pub mod Leaves
