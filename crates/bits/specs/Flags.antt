@@ -20,6 +20,19 @@ TMA = 2 ^ 1
 abbrev pub TA : ℕ
 TA = 2 ^ 0
 
+-- C-11 (000, figure 8), as a chaining row shows them: "TRI 7, RI 6, TA 5, POR 4, RECON 2, TMA 1, TTA 0"
+abbrev pub TRI : ℕ
+TRI = 2 ^ 7
+
+abbrev pub shownRI : ℕ
+shownRI = 2 ^ 6
+
+abbrev pub shownTA : ℕ
+shownTA = 2 ^ 5
+
+abbrev pub TTA : ℕ
+TTA = 2 ^ 0
+
 -- "Diagnostic: MYRECON 7, DUPID 6, RCVACT 5, TOKEN 4, EXCNAK 3 (0 for now), TENTID 2"
 abbrev pub MYRECON : ℕ
 MYRECON = 2 ^ 7

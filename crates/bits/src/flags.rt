@@ -9,6 +9,15 @@ pub const TMA: u8 = 1 << 1;
 
 pub const TA: u8 = 1;
 
+// As a chaining row shows them.
+pub const TRI: u8 = 1 << 7;
+
+pub const SHOWN_RI: u8 = 1 << 6;
+
+pub const SHOWN_TA: u8 = 1 << 5;
+
+pub const TTA: u8 = 1;
+
 pub const MYRECON: u8 = 1 << 7;
 
 pub const DUPID: u8 = 1 << 6;

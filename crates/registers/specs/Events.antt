@@ -3,10 +3,13 @@
 use mathlib.Core.Bool.{Bool, false, not, _&&_}
 use Prim.Native.Nat.{ℕ, _+_, _%_}
 use lib.Dec.{eqb}
+use Rattle.queues.specs.declared.queues.Way.the-variants.{Transmit, Receive}
 use Rattle.registers.specs.declared.regs.Regs.{Regs}
-use Rattle.bits.specs.Words.{pick, clear, has, raise, raiseIf, lower}
-use Rattle.bits.specs.Flags.{RI, RECON, TMA, TA, MYRECON, DUPID, RCVACT, TOKEN, TENTID, CANCEL, BROADCASTS}
-use Rattle.registers.specs.Fields.{with-status, with-diagnostic, with-nid, with-transmit, with-receive}
+use Rattle.bits.specs.Words.{pick, clear, has, raise, raiseIf}
+use Rattle.bits.specs.Flags.{RI, RECON, TA, MYRECON, DUPID, RCVACT, TOKEN, TENTID, BROADCASTS}
+use Rattle.registers.specs.Fields.{with-status, with-diagnostic, with-nid}
+use Rattle.queues.specs.Queues as queues
+use Rattle.registers.specs.Sides.{chaining, sideOf, withSide}
 use Rattle.registers.specs.Fit.{awake, onLine}
 
 -- "A row that comes on line bursts: its MYRECON is set .. So does a timer expiry"
@@ -32,25 +35,25 @@ answered g n taker =
 unfoldable pub risenNid : Regs → Regs
 risenNid g = with-nid ((g .nid + 1) % 256) g
 
--- "RI = 1, byte 14 zero"
+-- a receive ends: "RI = 1, byte 14 zero"; C-11: or the second moves up, and TRI is set
 unfoldable pub received : Regs → Regs
-received g = with-status (raise RI (g .status)) (with-receive 0 g)
+received g = withSide Receive (queues.ended Receive (chaining g) false (sideOf Receive g)) g
 
 -- "cancels asked in the holder's row take effect first (transmit: TA = 1; receive: RI = 1, byte 14 zero)"; "wherever TA becomes 1, byte 13
 -- becomes zero"
 abbrev pub transmitCancelled : Regs → Regs
-transmitCancelled g = pick (clear CANCEL (g .transmit)) g (with-status (raise TA (g .status)) (with-transmit 0 g))
+transmitCancelled g = withSide Transmit (queues.cancelled Transmit (sideOf Transmit g)) g
 
 abbrev pub receiveCancelled : Regs → Regs
-receiveCancelled g = pick (clear CANCEL (g .receive)) g (received g)
+receiveCancelled g = withSide Receive (queues.cancelled Receive (sideOf Receive g)) g
 
 unfoldable pub cancelled : Regs → Regs
 cancelled g = receiveCancelled (transmitCancelled g)
 
--- a transmit ends: "TA = 1 and TMA = 1", or "TA = 1, TMA = 0"; byte 13 zero. Where 01 says "TA = 1" alone (Malformed, Broadcast, NoAnswer) TMA is 0 already:
--- TA was 0
+-- a transmit ends: "TA = 1 and TMA = 1", or "TA = 1, TMA = 0"; byte 13 zero; C-11: or the second moves up, and TTA is set. Where 01 says "TA = 1" alone
+-- (Malformed, Broadcast, NoAnswer) TMA is 0 already, or tells of another end: TA was 0
 unfoldable pub sent : Regs → Bool → Regs
-sent g acknowledged = with-status (raise TA (pick acknowledged (raise TMA (g .status)) (lower TMA (g .status)))) (with-transmit 0 g)
+sent g acknowledged = withSide Transmit (queues.ended Transmit (chaining g) acknowledged (sideOf Transmit g)) g
 
 -- an enquiry that no packet followed: "NAK, TA stays 0", and "RCVACT .. in the holder if ACK or NAK answered"; or "NoAnswer, TA = 1"
 unfoldable pub enquired : Regs → Bool → Regs
@@ -65,11 +68,11 @@ receiving g = clear RI (g .status)
 
 -- "awake row .. with RI = 0 and broadcasts wanted"
 unfoldable pub takesBroadcasts : Regs → Bool
-takesBroadcasts g = awake g && receiving g && has BROADCASTS (g .receive)
+takesBroadcasts g = awake g && receiving g && has BROADCASTS (g .receive .oldest)
 
--- "bits 1-0 page"
+-- "bits 1-0 page", of the oldest
 unfoldable pub transmitPage : Regs → ℕ
-transmitPage g = g .transmit % 4
+transmitPage g = g .transmit .oldest % 4
 
 unfoldable pub receivePage : Regs → ℕ
-receivePage g = g .receive % 4
+receivePage g = g .receive .oldest % 4

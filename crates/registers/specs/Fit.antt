@@ -1,11 +1,14 @@
 -- Document 01, "The saved network": when a card is awake and on line, and when its registers agree with each other.
 -- Assumes nothing.
-use mathlib.Core.Bool.{Bool, not, _&&_, _||_}
-use mathlib.Core.List.{List, [], _∷_, _++_}
+use mathlib.Core.Bool.{Bool, not, _&&_}
+use mathlib.Core.List.{List, [], _∷_}
 use lib.Dec.{eqb}
+use Rattle.queues.specs.declared.queues.Way.the-variants.{Transmit, Receive}
 use Rattle.registers.specs.declared.regs.Regs.{Regs}
 use Rattle.bits.specs.Words.{all, clear, has}
-use Rattle.bits.specs.Flags.{RI, TMA, TA, RESET, TXEN, LOW2, only, statusBits, diagnosticBits, maskBits, configurationBits, setupBits, modeBits, transmitBits, receiveBits}
+use Rattle.bits.specs.Flags.{RESET, TXEN, LOW2, only, statusBits, diagnosticBits, maskBits, setupBits, modeBits}
+use Rattle.queues.specs.Queues as queues
+use Rattle.registers.specs.Sides.{chaining, sideOf}
 
 -- "Awake: ID not 0 and RESET clear. On line: awake and TXEN set."
 unfoldable pub awake : Regs → Bool
@@ -14,21 +17,14 @@ awake g = not (eqb (g .id) 0) && clear RESET (g .configuration)
 unfoldable pub onLine : Regs → Bool
 onLine g = awake g && has TXEN (g .configuration)
 
--- "Unnamed bits are zero", "CCHEN = 0"
+-- "Unnamed bits are zero", but for the queues; every bit of the configuration has a name. Bytes 32 to 34 are "16-63 zero" yet
 abbrev pub named : Regs → List Bool
 named g =
-    only statusBits (g .status) ∷ only diagnosticBits (g .diagnostic) ∷ only maskBits (g .mask)
-    ∷ only configurationBits (g .configuration) ∷ only setupBits (g .setup) ∷ only LOW2 (g .high) ∷ only modeBits (g .mode)
-    ∷ only transmitBits (g .transmit) ∷ only receiveBits (g .receive) ∷ only 1 (g .long) ∷ []
+    only statusBits (g .status) ∷ only diagnosticBits (g .diagnostic) ∷ only maskBits (g .mask) ∷ only setupBits (g .setup)
+    ∷ only LOW2 (g .high) ∷ only modeBits (g .mode) ∷ only 1 (g .long)
+    ∷ eqb (g .later .fetched) 0 ∷ eqb (g .later .naklow) 0 ∷ eqb (g .later .nakhigh) 0 ∷ []
 
--- "TA = 1 only with byte 13 zero; RI = 1 only with byte 14 zero; TMA = 1 only with TA = 1; ..
--- with long packets 1, an enabled page (TA = 0, RI = 0) is even"
-abbrev pub agree : Regs → List Bool
-agree g =
-    (clear TA (g .status) || eqb (g .transmit) 0) ∷ (clear RI (g .status) || eqb (g .receive) 0)
-    ∷ (clear TMA (g .status) || has TA (g .status))
-    ∷ (not (eqb (g .long) 1) || has TA (g .status) || clear 1 (g .transmit))
-    ∷ (not (eqb (g .long) 1) || has RI (g .status) || clear 1 (g .receive)) ∷ []
-
+-- and each side agrees with the status, with long packets and with CCHEN
 unfoldable pub fit : Regs → Bool
-fit g = all (named g ++ agree g)
+fit g =
+    all (named g) && queues.fit Transmit (chaining g) (g .long) (sideOf Transmit g) && queues.fit Receive (chaining g) (g .long) (sideOf Receive g)

@@ -1,10 +1,12 @@
 -- Document 01, "The saved network": the bytes of a row that hold the registers, and those that each access may change.
 -- Assumes nothing.
-use mathlib.Core.List.{List, [], _∷_}
+use mathlib.Core.Bool.{Bool, _&&_, _||_}
+use mathlib.Core.List.{List, [], _∷_, _++_}
 use Prim.Native.Nat.{ℕ}
-use lib.Dec.{eqb}
+use lib.Dec.{eqb, leb}
 use Rattle.registers.specs.declared.regs.Regs.{Regs}
 use Rattle.bits.specs.Words.{pick}
+use Rattle.registers.specs.Sides.{chaining}
 use Rattle.registers.specs.Registers.{sub}
 
 -- "Register bytes of a row: .. 2 node ID; 3 status; 4 diagnostic status; 5 interrupt mask; 6 configuration; 7 setup; 8 tentative ID; 9 NID; 10 pointer high (0-3);
@@ -51,11 +53,51 @@ at-receive = 14
 abbrev pub at-long : ℕ
 at-long = 15
 
--- the registers in the order of their bytes, from the node ID on
+-- C-11: "16 second transmit ..; 17 second receive ..; 18 uncleared transmit completions ..; 19 uncleared receive completions"
+abbrev pub at-second-transmit : ℕ
+at-second-transmit = 16
+
+abbrev pub at-second-receive : ℕ
+at-second-receive = 17
+
+abbrev pub at-sent : ℕ
+at-sent = 18
+
+abbrev pub at-received : ℕ
+at-received = 19
+
+-- the bytes that the requests C-13 and C-16 use: 32, 33 and 34
+abbrev pub at-fetched : ℕ
+at-fetched = 32
+
+abbrev pub at-nak-low : ℕ
+at-nak-low = 33
+
+abbrev pub at-nak-high : ℕ
+at-nak-high = 34
+
+-- the registers in the order of their bytes, from the node ID on; and from 32 on
 abbrev pub bytesOf : Regs → List ℕ
 bytesOf g =
     g .id ∷ g .status ∷ g .diagnostic ∷ g .mask ∷ g .configuration ∷ g .setup ∷ g .tentative ∷ g .nid ∷ g .high ∷ g .low ∷ g .mode ∷
-    g .transmit ∷ g .receive ∷ g .long ∷ []
+    g .transmit .oldest ∷ g .receive .oldest ∷ g .long ∷ g .transmit .second ∷ g .receive .second ∷ g .transmit .done ∷ g .receive .done ∷ []
+
+abbrev pub laterOf : Regs → List ℕ
+laterOf g = g .later .fetched ∷ g .later .naklow ∷ g .later .nakhigh ∷ []
+
+-- the bytes of a row that hold registers
+abbrev pub held : ℕ → Bool
+held i = leb at-id i && leb i at-received || leb at-fetched i && leb i at-nak-high
+
+-- the bytes of the queues: those behind 15 are of a chaining row alone
+abbrev pub transmitBytes : Bool → List ℕ
+transmitBytes chaining = at-transmit ∷ pick chaining (at-second-transmit ∷ at-sent ∷ []) []
+
+abbrev pub receiveBytes : Bool → List ℕ
+receiveBytes chaining = at-receive ∷ pick chaining (at-second-receive ∷ at-received ∷ []) []
+
+abbrev pub queueBytes : Bool → List ℕ
+queueBytes chaining = transmitBytes chaining ++ receiveBytes chaining
 
 -- the register bytes that a read may change: "1 gives diagnostic status and then zeroes it"; of 4, the pointer
 abbrev pub readChanges : ℕ → List ℕ
@@ -63,12 +105,15 @@ readChanges k = pick (eqb k 1) (at-diagnostic ∷ []) (pick (eqb k 4) (at-high �
 
 -- those that a write may change, of a card with the registers g: the mask; what a command does; mode; the pointer; what a software reset does, and the configuration;
 -- "7 by sub-address"
-abbrev pub writeChanges : Regs → ℕ → List ℕ
-writeChanges g k =
+abbrev pub writeBytes : Bool → Regs → ℕ → List ℕ
+writeBytes chaining g k =
     pick (eqb k 0) (at-mask ∷ [])
-    (pick (eqb k 1) (at-status ∷ at-transmit ∷ at-receive ∷ at-long ∷ [])
+    (pick (eqb k 1) (at-status ∷ at-long ∷ queueBytes chaining)
     (pick (eqb k 2) (at-mode ∷ [])
     (pick (eqb k 3) (at-high ∷ at-low ∷ [])
     (pick (eqb k 4) (at-high ∷ at-low ∷ [])
-    (pick (eqb k 6) (at-configuration ∷ at-status ∷ at-diagnostic ∷ at-mask ∷ at-transmit ∷ at-receive ∷ at-long ∷ [])
+    (pick (eqb k 6) (at-configuration ∷ at-status ∷ at-diagnostic ∷ at-mask ∷ at-long ∷ queueBytes chaining)
     (pick (eqb k 7) (pick (eqb (sub g) 0) (at-tentative ∷ []) (pick (eqb (sub g) 1) (at-id ∷ []) (at-setup ∷ []))) []))))))
+
+abbrev pub writeChanges : Regs → ℕ → List ℕ
+writeChanges g k = writeBytes (chaining g) g k

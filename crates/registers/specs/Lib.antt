@@ -1,5 +1,6 @@
 pub mod Numbers
 pub mod Fields
+pub mod Sides
 pub mod Fit
 pub mod Commands
 pub mod Registers

@@ -15,7 +15,7 @@ DONE = 0
 abbrev pub REGISTER : ℕ
 REGISTER = 3
 
--- "unnamed bit, CCHEN, illegal command, fault above 3, fresh n not 1-60; reader: page above 3 or malformed"
+-- "unnamed bit, .., illegal command, fault above 3, fresh n not 1-60; reader: page above 3 or malformed"
 abbrev pub VALUE : ℕ
 VALUE = 4
 

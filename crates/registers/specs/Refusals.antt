@@ -4,45 +4,56 @@ use mathlib.Core.Bool.{Bool, true, false, not, _&&_, _||_}
 use mathlib.Core.List.{List, [], _∷_}
 use Prim.Native.Nat.{ℕ}
 use lib.Dec.{eqb, ltb}
+use Rattle.queues.specs.declared.queues.Way.the-variants.{Transmit, Receive}
 use Rattle.registers.specs.declared.regs.Regs.{Regs}
 use Rattle.registers.specs.declared.commands.Command.{Command}
-use Rattle.registers.specs.declared.commands.Command.the-variants.{Illegal, DisableTransmitter, DisableReceiver, EnableTransmit, EnableReceive, LongPackets, ClearFlags}
+use Rattle.registers.specs.declared.commands.Command.the-variants.{Illegal, DisableTransmitter, DisableReceiver, EnableTransmit, EnableReceive, LongPackets, ClearFlags, ClearTransmit, ClearReceive}
 use Rattle.bits.specs.Words.{clear, has}
-use Rattle.bits.specs.Flags.{RI, TA, RDDATA, only, maskBits, configurationBits, setupBits, modeBits}
+use Rattle.bits.specs.Flags.{RI, TA, RDDATA, only, maskBits, setupBits, modeBits}
 use Rattle.registers.specs.Numbers.{REGISTER, VALUE, NOTREADY, DIRECTION, BUSY, ONLINE, PAGE, Refusal, _when_, told}
 use Rattle.registers.specs.Fit.{awake, onLine}
 use Rattle.registers.specs.Commands.{commandOf}
-use Rattle.registers.specs.Registers.{sub, writesId}
+use Rattle.queues.specs.Queues.{full}
+use Rattle.registers.specs.Sides.{chaining, sideOf}
+use Rattle.registers.specs.Registers.{sub, changesChaining, writesId}
 
 -- "3 REGISTER: above 7; 5; 7 with sub-address 11; write of 7 and read of 7 alike"
 unfoldable pub noRegister : Regs → ℕ → Bool
 noRegister g k = ltb 7 k || eqb k 5 || eqb k 7 && eqb (sub g) 3
 
-abbrev pub illegal : Command → Bool
-illegal Illegal = true
-illegal DisableTransmitter = false
-illegal DisableReceiver = false
-illegal (EnableTransmit p) = false
-illegal (EnableReceive p b) = false
-illegal (LongPackets l) = false
-illegal (ClearFlags p r) = false
+-- C-11: "VALUE no longer meets .. commands 00 and 08 in a chaining row"
+abbrev pub illegal : Bool → Command → Bool
+illegal chaining Illegal = true
+illegal chaining DisableTransmitter = false
+illegal chaining DisableReceiver = false
+illegal chaining (EnableTransmit p) = false
+illegal chaining (EnableReceive p b) = false
+illegal chaining (LongPackets l) = false
+illegal chaining (ClearFlags p r) = false
+illegal chaining ClearTransmit = not chaining
+illegal chaining ClearReceive = not chaining
 
--- "4 VALUE: unnamed bit, CCHEN, illegal command"
+-- "4 VALUE: unnamed bit, .., illegal command"; a configuration has no unnamed bit
 unfoldable pub badValue : Regs → ℕ → ℕ → Bool
 badValue g k v =
-    eqb k 0 && not (only maskBits v) || eqb k 1 && illegal (commandOf v) || eqb k 2 && not (only modeBits v)
-    || eqb k 6 && not (only configurationBits v)
+    eqb k 0 && not (only maskBits v) || eqb k 1 && illegal (chaining g) (commandOf v) || eqb k 2 && not (only modeBits v)
     || eqb k 7 && eqb (sub g) 2 && not (only setupBits v)
 
--- "7 BUSY: Enable with TA (RI) 0; 05 or 0D with TA or RI 0"
+-- "7 BUSY: Enable with TA (RI) 0", in a chaining row with two waiting; "05 or 0D with TA or RI 0"
 abbrev pub busy : Regs → Command → Bool
 busy g Illegal = false
 busy g DisableTransmitter = false
 busy g DisableReceiver = false
-busy g (EnableTransmit p) = clear TA (g .status)
-busy g (EnableReceive p b) = clear RI (g .status)
+busy g (EnableTransmit p) = full Transmit (chaining g) (sideOf Transmit g)
+busy g (EnableReceive p b) = full Receive (chaining g) (sideOf Receive g)
 busy g (LongPackets l) = clear TA (g .status) || clear RI (g .status)
 busy g (ClearFlags p r) = false
+busy g ClearTransmit = false
+busy g ClearReceive = false
+
+-- C-11: "changing CCHEN with work waiting is BUSY"
+abbrev pub chainBusy : Regs → ℕ → Bool
+chainBusy g v = changesChaining g v && (clear TA (g .status) || clear RI (g .status))
 
 -- "9 PAGE: Enable with f = 1 and long packets 1"
 abbrev pub oddPage : Regs → Command → Bool
@@ -53,6 +64,8 @@ oddPage g (EnableTransmit p) = has 1 p && eqb (g .long) 1
 oddPage g (EnableReceive p b) = has 1 p && eqb (g .long) 1
 oddPage g (LongPackets l) = false
 oddPage g (ClearFlags p r) = false
+oddPage g ClearTransmit = false
+oddPage g ClearReceive = false
 
 -- "6 DIRECTION: register 4 read with RDDATA 0 .."
 unfoldable pub readRefusals : Regs → ℕ → List Refusal
@@ -65,7 +78,7 @@ writeRefusals g k v =
     ∷ VALUE when badValue g k v
     ∷ NOTREADY when (eqb k 1 && not (awake g))
     ∷ DIRECTION when (eqb k 4 && has RDDATA (g .mode))
-    ∷ BUSY when (eqb k 1 && busy g (commandOf v))
+    ∷ BUSY when (eqb k 1 && busy g (commandOf v) || eqb k 6 && chainBusy g v)
     ∷ ONLINE when (onLine g && writesId g k)
     ∷ PAGE when (eqb k 1 && oddPage g (commandOf v)) ∷ []
 

@@ -1,15 +1,18 @@
 -- Document 01, "Registers": what reading and writing give, the resets, the commands' effects and the interrupt.
 -- Assumes nothing.
-use mathlib.Core.Bool.{Bool, _&&_, _||_}
+use mathlib.Core.Bool.{Bool, not, _&&_, _||_}
 use Prim.Native.Nat.{ℕ, _+_, _*_, _/_, _%_}
 use lib.Bits.{bitAnd, bitOr}
 use lib.Dec.{eqb}
+use Rattle.queues.specs.declared.queues.Way.the-variants.{Transmit, Receive}
 use Rattle.registers.specs.declared.regs.Regs.{Regs}
 use Rattle.registers.specs.declared.commands.Command.{Command}
-use Rattle.registers.specs.declared.commands.Command.the-variants.{Illegal, DisableTransmitter, DisableReceiver, EnableTransmit, EnableReceive, LongPackets, ClearFlags}
-use Rattle.bits.specs.Words.{pick, clear, has, raise, lower}
-use Rattle.bits.specs.Flags.{RI, POR, RECON, TMA, TA, RESET, RDDATA, AUTO-INC, CANCEL, BROADCASTS}
+use Rattle.registers.specs.declared.commands.Command.the-variants.{Illegal, DisableTransmitter, DisableReceiver, EnableTransmit, EnableReceive, LongPackets, ClearFlags, ClearTransmit, ClearReceive}
+use Rattle.bits.specs.Words.{pick, clear, has, raiseIf, lower}
+use Rattle.bits.specs.Flags.{RI, POR, RECON, TMA, TA, TRI, shownRI, shownTA, TTA, RESET, CCHEN, RDDATA, AUTO-INC, BROADCASTS}
 use Rattle.registers.specs.Fields.{with-id, with-status, with-diagnostic, with-mask, with-configuration, with-setup, with-tentative, with-high, with-low, with-mode, with-transmit, with-receive, with-long}
+use Rattle.queues.specs.Queues.{none, cleared, enabled, disabled}
+use Rattle.registers.specs.Sides.{chaining, sideOf, withSide, tta, tri}
 use Rattle.registers.specs.Commands.{commandOf}
 
 -- ".. then 1,024 of RAM"
@@ -35,11 +38,18 @@ stepped g = pick (has AUTO-INC (g .mode)) (with-high (risen g / 256) (with-low (
 abbrev pub seventh : Regs → ℕ
 seventh g = pick (eqb (sub g) 0) (g .tentative) (pick (eqb (sub g) 1) (g .id) (g .setup))
 
--- "Reading 0 gives status; 1 gives diagnostic status ..; 2 gives RDDATA, AUTO-INC and the pointer's A9-A8; 3 its low byte; 6 configuration";
+-- "Reading 0 gives status"; C-11 (000, figure 8): in a chaining row TRI 7, RI 6, TA 5, POR 4, RECON 2, TMA 1, TTA 0
+unfoldable pub shown : Regs → ℕ
+shown g =
+    pick (chaining g)
+    (raiseIf (tri g) TRI (raiseIf (has RI (g .status)) shownRI (raiseIf (has TA (g .status)) shownTA (raiseIf (tta g) TTA (bitAnd (g .status) (POR + RECON + TMA))))))
+    (g .status)
+
+-- "1 gives diagnostic status ..; 2 gives RDDATA, AUTO-INC and the pointer's A9-A8; 3 its low byte; 6 configuration";
 -- 4 gives the RAM byte m at the pointer
 unfoldable pub readValue : Regs → ℕ → ℕ → ℕ
 readValue g m k =
-    pick (eqb k 0) (g .status)
+    pick (eqb k 0) (shown g)
     (pick (eqb k 1) (g .diagnostic)
     (pick (eqb k 2) (bitOr (bitAnd (g .mode) (RDDATA + AUTO-INC)) (g .high % 4))
     (pick (eqb k 3) (g .low)
@@ -51,7 +61,7 @@ readValue g m k =
 unfoldable pub afterRead : Regs → ℕ → Regs
 afterRead g k = pick (eqb k 1) (with-diagnostic 0 g) (pick (eqb k 4) (stepped g) g)
 
--- "Hardware reset: ID, tentative ID, NID, mask, setup, pointer, mode and diagnostic 0, configuration 18 hex, status 91 hex, bytes 13-15 zero"
+-- "Hardware reset: ID, tentative ID, NID, mask, setup, pointer, mode and diagnostic 0, configuration 18 hex, status 91 hex, bytes 13-15 zero"; C-11: 16-31 too
 unfoldable pub hardwareReset : Regs
 hardwareReset = record {
   id = 0;
@@ -65,34 +75,44 @@ hardwareReset = record {
   high = 0;
   low = 0;
   mode = 0;
-  transmit = 0;
-  receive = 0;
+  transmit = none;
+  receive = none;
   long = 0;
+  later = record { fetched = 0; naklow = 0; nakhigh = 0 };
 }
 
--- "Writing RESET = 1: status 91, diagnostic and mask 0, bytes 13-15 zero. The new configuration is stored"
+-- "Writing RESET = 1: status 91, diagnostic and mask 0, bytes 13-15 zero", 16-31 too. "The new configuration is stored"
 abbrev pub softwareReset : Regs → Regs
-softwareReset g = with-status 0x91 (with-diagnostic 0 (with-mask 0 (with-transmit 0 (with-receive 0 (with-long 0 g)))))
+softwareReset g = with-status 0x91 (with-diagnostic 0 (with-mask 0 (with-transmit none (with-receive none (with-long 0 g)))))
+
+-- C-11: a change of CCHEN, which finds nothing waiting, drops the ends that are not cleared
+abbrev pub changesChaining : Regs → ℕ → Bool
+changesChaining g v = not (eqb (bitAnd v CCHEN) (bitAnd (g .configuration) CCHEN))
+
+abbrev pub rechained : Regs → ℕ → Regs
+rechained g v = pick (changesChaining g v) (with-transmit none (with-receive none g)) g
 
 unfoldable pub configured : Regs → ℕ → Regs
-configured g v = with-configuration v (pick (clear RESET v) g (softwareReset g))
+configured g v = with-configuration v (pick (clear RESET v) (rechained g v) (softwareReset g))
 
--- "The interrupt is active exactly when POR is set, or RI, RECON or TA is set with its mask bit"
+-- "The interrupt is active exactly when POR is set, or RI, RECON or TA is set with its mask bit"; C-11: "The mask bits then act on TTA and TRI"
 unfoldable pub interrupt : Regs → Bool
 interrupt g =
-    has POR (g .status) || has RI (g .status) && has RI (g .mask) || has RECON (g .status) && has RECON (g .mask)
-    || has TA (g .status) && has TA (g .mask)
+    has POR (g .status) || pick (chaining g) (tri g) (has RI (g .status)) && has RI (g .mask) || has RECON (g .status) && has RECON (g .mask)
+    || pick (chaining g) (tta g) (has TA (g .status)) && has TA (g .mask)
 
--- "01 Disable Transmitter and 02 Disable Receiver: ask a cancel (no effect if TA, or RI, is 1). .. Enable Transmit: TA and TMA to 0, byte 13
--- to the page. .. Enable Receive: RI to 0; the top bit wants broadcasts. .. 05, 0D long packets 0, 1. .. Clear Flags: bit 3 clears POR, bit 4 RECON"
+-- "01 Disable Transmitter and 02 Disable Receiver: ask a cancel .. Enable Transmit: .. byte 13 to the page. .. Enable Receive: .. the top bit wants broadcasts.
+-- .. 05, 0D long packets 0, 1. .. Clear Flags: bit 3 clears POR, bit 4 RECON"; C-11: "Clear Transmit Interrupt (00) or Clear Receive Interrupt (08)"
 unfoldable pub commanded : Regs → Command → Regs
 commanded g Illegal = g
-commanded g DisableTransmitter = with-transmit (pick (has TA (g .status)) (g .transmit) (raise CANCEL (g .transmit))) g
-commanded g DisableReceiver = with-receive (pick (has RI (g .status)) (g .receive) (raise CANCEL (g .receive))) g
-commanded g (EnableTransmit p) = with-status (lower (TA + TMA) (g .status)) (with-transmit p g)
-commanded g (EnableReceive p b) = with-status (lower RI (g .status)) (with-receive (pick b (raise BROADCASTS p) p) g)
+commanded g DisableTransmitter = withSide Transmit (disabled Transmit (sideOf Transmit g)) g
+commanded g DisableReceiver = withSide Receive (disabled Receive (sideOf Receive g)) g
+commanded g (EnableTransmit p) = withSide Transmit (enabled Transmit (chaining g) p (sideOf Transmit g)) g
+commanded g (EnableReceive p b) = withSide Receive (enabled Receive (chaining g) (raiseIf b BROADCASTS p) (sideOf Receive g)) g
 commanded g (LongPackets l) = with-long l g
 commanded g (ClearFlags p r) = with-status (lower (pick p POR 0) (lower (pick r RECON 0) (g .status))) g
+commanded g ClearTransmit = withSide Transmit (cleared Transmit (sideOf Transmit g)) g
+commanded g ClearReceive = withSide Receive (cleared Receive (sideOf Receive g)) g
 
 -- a write of the node ID
 unfoldable pub writesId : Regs → ℕ → Bool

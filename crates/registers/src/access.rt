@@ -1,22 +1,28 @@
 // Document 01, "Registers": what reading and writing a register gives and leaves, register 4's pointer, the software reset
 // and the effects of the commands.
 ghost use mathlib.Core.Path.{_≡_};
-ghost use Rattle.registers.specs.Registers.{sub, pointer, stepped, seventh, readValue, afterRead, configured, commanded, writesId, seventhWritten, afterWrite};
+ghost use Rattle.registers.specs.Registers.{sub, pointer, stepped, seventh, shown, readValue, afterRead, changesChaining, rechained, configured, commanded, writesId, seventhWritten, afterWrite};
 use crate::commands::Command;
 use crate::commands::decode;
-use crate::numbers::choose;
 use crate::regs::AFTER_RESET;
-use crate::regs::AUTO_INC;
-use crate::regs::BROADCASTS;
-use crate::regs::CANCEL;
-use crate::regs::POR;
-use crate::regs::RDDATA;
-use crate::regs::RECON;
-use crate::regs::RESET;
-use crate::regs::RI;
 use crate::regs::Regs;
-use crate::regs::TA;
-use crate::regs::TMA;
+use bits::choice::choose;
+use bits::flags::AUTO_INC;
+use bits::flags::BROADCASTS;
+use bits::flags::CCHEN;
+use bits::flags::POR;
+use bits::flags::RDDATA;
+use bits::flags::RECON;
+use bits::flags::RESET;
+use bits::flags::RI;
+use bits::flags::SHOWN_RI;
+use bits::flags::SHOWN_TA;
+use bits::flags::TA;
+use bits::flags::TMA;
+use bits::flags::TRI;
+use bits::flags::TTA;
+use queues::queues::Queue;
+use queues::queues::Way;
 
 impl Regs {
     // The RAM address that register 4 reads or writes.
@@ -58,12 +64,24 @@ impl Regs {
         )
     }
 
+    // The status as register 0 shows it.
+    fn shown(self) -> u8
+        ensures { λ r. ⌜ r ≡ shown self ⌝ }
+    {
+        let flags = self.status & (POR | RECON | TMA);
+        let flags = choose(self.transmit.uncleared(), flags | TTA, flags);
+        let flags = choose(self.status & TA != 0, flags | SHOWN_TA, flags);
+        let flags = choose(self.status & RI != 0, flags | SHOWN_RI, flags);
+        let flags = choose(self.receive.uncleared(), flags | TRI, flags);
+        choose(self.chaining(), flags, self.status)
+    }
+
     // What a read of a register gives; `ram` is the RAM byte at the pointer.
     pub fn read_value(self, ram: u8, register: usize) -> u8
         ensures { λ r. ⌜ r ≡ readValue self ram register ⌝ }
     {
         match register {
-            0 => self.status,
+            0 => self.shown(),
             1 => self.diagnostic,
             2 => self.mode & (RDDATA | AUTO_INC) | self.high % 4,
             3 => self.low,
@@ -88,20 +106,41 @@ impl Regs {
         }
     }
 
+    pub(crate) fn changes_chaining(self, value: u8) -> bool
+        ensures { λ r. ⌜ r ≡ changesChaining self value ⌝ }
+    {
+        value & CCHEN != self.configuration & CCHEN
+    }
+
+    // A change of CCHEN drops the ends that are not cleared; nothing waits then.
+    fn rechained(self, value: u8) -> Regs
+        ensures { λ r. ⌜ r ≡ rechained self value ⌝ }
+    {
+        if self.changes_chaining(value) {
+            let mut g = self;
+            g.transmit = Queue::none();
+            g.receive = Queue::none();
+            return g;
+        }
+        self
+    }
+
     // The configuration is written; RESET = 1 is a software reset.
     fn configured(self, value: u8) -> Regs
         ensures { λ r. ⌜ r ≡ configured self value ⌝ }
     {
-        let mut g = self;
-        g.configuration = value;
         if value & RESET == 0 {
+            let mut g = self.rechained(value);
+            g.configuration = value;
             return g;
         }
+        let mut g = self;
+        g.configuration = value;
         g.status = AFTER_RESET;
         g.diagnostic = 0;
         g.mask = 0;
-        g.transmit = 0;
-        g.receive = 0;
+        g.transmit = Queue::none();
+        g.receive = Queue::none();
         g.long = 0;
         g
     }
@@ -111,25 +150,26 @@ impl Regs {
         ensures { λ r. ⌜ r ≡ commanded self command ⌝ }
     {
         let mut g = self;
+        let chaining = self.chaining();
+        let transmit = self.side(Way::Transmit);
+        let receive = self.side(Way::Receive);
         match command {
             Command::Illegal => g,
             Command::DisableTransmitter => {
-                g.transmit = choose(self.status & TA != 0, self.transmit, self.transmit | CANCEL);
-                g
+                self.with_side(Way::Transmit, transmit.disabled(Way::Transmit))
             }
             Command::DisableReceiver => {
-                g.receive = choose(self.status & RI != 0, self.receive, self.receive | CANCEL);
-                g
+                self.with_side(Way::Receive, receive.disabled(Way::Receive))
             }
             Command::EnableTransmit(page) => {
-                g.status = self.status & !(TA | TMA);
-                g.transmit = page;
-                g
+                self.with_side(
+                    Way::Transmit,
+                    transmit.enabled(Way::Transmit, chaining, page),
+                )
             }
             Command::EnableReceive(page, broadcasts) => {
-                g.status = self.status & !RI;
-                g.receive = choose(broadcasts, page | BROADCASTS, page);
-                g
+                let entry = choose(broadcasts, page | BROADCASTS, page);
+                self.with_side(Way::Receive, receive.enabled(Way::Receive, chaining, entry))
             }
             Command::LongPackets(on) => {
                 g.long = on;
@@ -139,6 +179,10 @@ impl Regs {
                 g.status = self.status & !choose(recon, RECON, 0) & !choose(por, POR, 0);
                 g
             }
+            Command::ClearTransmit => {
+                self.with_side(Way::Transmit, transmit.cleared(Way::Transmit))
+            }
+            Command::ClearReceive => { self.with_side(Way::Receive, receive.cleared(Way::Receive)) }
         }
     }
 

@@ -1,4 +1,4 @@
-// Document 01, "Twenty command bytes are legal, in hex".
+// Document 01, "Twenty command bytes are legal, in hex", and the two of C-11.
 ghost use mathlib.Core.Path.{_≡_};
 ghost use Rattle.registers.specs.Commands.{commandOf};
 ghost use Rattle.registers.specs.Refusals.{illegal};
@@ -14,12 +14,15 @@ pub enum Command {
     LongPackets(u8),
     // Whether POR is cleared, and whether RECON is.
     ClearFlags(bool, bool),
+    // Clear Transmit Interrupt and Clear Receive Interrupt, of a chaining row alone.
+    ClearTransmit,
+    ClearReceive,
 }
 
 // A legal byte, and its command with its page.
 struct Legal(u8, Command);
 
-const LEGAL: [Legal; 20] = [
+const LEGAL: [Legal; 22] = [
     Legal(0x01, Command::DisableTransmitter),
     Legal(0x02, Command::DisableReceiver),
     Legal(0x03, Command::EnableTransmit(0)),
@@ -40,6 +43,8 @@ const LEGAL: [Legal; 20] = [
     Legal(0x0e, Command::ClearFlags(true, false)),
     Legal(0x16, Command::ClearFlags(false, true)),
     Legal(0x1e, Command::ClearFlags(true, true)),
+    Legal(0x00, Command::ClearTransmit),
+    Legal(0x08, Command::ClearReceive),
 ];
 
 // The command of a byte, found in the table.
@@ -47,7 +52,7 @@ pub(crate) fn decode(byte: u8) -> Command
     ensures { λ r. ⌜ r ≡ commandOf byte ⌝ }
 {
     let mut i = 0;
-    while i < 20 {
+    while i < 22 {
         let legal = LEGAL[i];
         if legal.0 == byte {
             let found = legal.1;
@@ -59,8 +64,8 @@ pub(crate) fn decode(byte: u8) -> Command
 }
 
 impl Command {
-    pub(crate) fn illegal(self) -> bool
-        ensures { λ r. ⌜ r ≡ illegal self ⌝ }
+    pub(crate) fn illegal(self, chaining: bool) -> bool
+        ensures { λ r. ⌜ r ≡ illegal chaining self ⌝ }
     {
         match self {
             Command::Illegal => true,
@@ -70,6 +75,8 @@ impl Command {
             Command::EnableReceive(_, _) => false,
             Command::LongPackets(_) => false,
             Command::ClearFlags(_, _) => false,
+            Command::ClearTransmit => !chaining,
+            Command::ClearReceive => !chaining,
         }
     }
 }

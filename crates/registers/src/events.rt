@@ -1,19 +1,18 @@
 // Document 01, "One line step": what the line does to one card's registers, and what it asks of them.
 ghost use mathlib.Core.Path.{_≡_};
 ghost use Rattle.registers.specs.Events.{burst, recovered, heard, answered, risenNid, transmitCancelled, receiveCancelled, cancelled, sent, enquired, received, transmitting, receiving, takesBroadcasts, transmitPage, receivePage};
-use crate::numbers::choose;
-use crate::regs::BROADCASTS;
-use crate::regs::CANCEL;
-use crate::regs::DUPID;
-use crate::regs::MYRECON;
-use crate::regs::RCVACT;
-use crate::regs::RECON;
-use crate::regs::RI;
 use crate::regs::Regs;
-use crate::regs::TA;
-use crate::regs::TENTID;
-use crate::regs::TMA;
-use crate::regs::TOKEN;
+use bits::choice::choose;
+use bits::flags::BROADCASTS;
+use bits::flags::DUPID;
+use bits::flags::MYRECON;
+use bits::flags::RCVACT;
+use bits::flags::RECON;
+use bits::flags::RI;
+use bits::flags::TA;
+use bits::flags::TENTID;
+use bits::flags::TOKEN;
+use queues::queues::Way;
 
 impl Regs {
     // A reconfiguration burst of this card's own.
@@ -79,22 +78,19 @@ impl Regs {
     fn transmit_cancelled(self) -> Regs
         ensures { λ r. ⌜ r ≡ transmitCancelled self ⌝ }
     {
-        if self.transmit & CANCEL == 0 {
-            return self;
-        }
-        let mut g = self;
-        g.status = self.status | TA;
-        g.transmit = 0;
-        g
+        self.with_side(
+            Way::Transmit,
+            self.side(Way::Transmit).cancelled(Way::Transmit),
+        )
     }
 
     fn receive_cancelled(self) -> Regs
         ensures { λ r. ⌜ r ≡ receiveCancelled self ⌝ }
     {
-        if self.receive & CANCEL == 0 {
-            return self;
-        }
-        self.received()
+        self.with_side(
+            Way::Receive,
+            self.side(Way::Receive).cancelled(Way::Receive),
+        )
     }
 
     // The cancels that were asked take effect.
@@ -108,10 +104,9 @@ impl Regs {
     pub fn sent(self, acknowledged: bool) -> Regs
         ensures { λ r. ⌜ r ≡ sent self acknowledged ⌝ }
     {
-        let mut g = self;
-        g.status = choose(acknowledged, self.status | TMA, self.status & !TMA) | TA;
-        g.transmit = 0;
-        g
+        let s = self.side(Way::Transmit)
+            .ended(Way::Transmit, self.chaining(), acknowledged);
+        self.with_side(Way::Transmit, s)
     }
 
     // An enquiry of this card's own that no packet followed: NAK answered it, or nobody did.
@@ -128,10 +123,9 @@ impl Regs {
     pub fn received(self) -> Regs
         ensures { λ r. ⌜ r ≡ received self ⌝ }
     {
-        let mut g = self;
-        g.status = self.status | RI;
-        g.receive = 0;
-        g
+        let s = self.side(Way::Receive)
+            .ended(Way::Receive, self.chaining(), false);
+        self.with_side(Way::Receive, s)
     }
 
     pub fn transmitting(self) -> bool
@@ -149,18 +143,18 @@ impl Regs {
     pub fn takes_broadcasts(self) -> bool
         ensures { λ r. ⌜ r ≡ takesBroadcasts self ⌝ }
     {
-        self.awake() & self.receiving() & (self.receive & BROADCASTS != 0)
+        self.awake() & self.receiving() & (self.receive.oldest & BROADCASTS != 0)
     }
 
     pub fn transmit_page(self) -> usize
         ensures { λ r. ⌜ r ≡ transmitPage self ⌝ }
     {
-        (self.transmit % 4) as usize
+        (self.transmit.oldest % 4) as usize
     }
 
     pub fn receive_page(self) -> usize
         ensures { λ r. ⌜ r ≡ receivePage self ⌝ }
     {
-        (self.receive % 4) as usize
+        (self.receive.oldest % 4) as usize
     }
 }

@@ -1,7 +1,7 @@
 // Document 01, "Numbers a caller may get": the card's own numbers, and how a call's refusals make the one that is told.
 ghost use mathlib.Core.Path.{_≡_};
-ghost use Rattle.bits.specs.Words.{pick};
 ghost use Rattle.registers.specs.Numbers.{refuse};
+use bits::choice::choose;
 
 pub const DONE: u8 = 0;
 
@@ -18,12 +18,6 @@ pub const BUSY: u8 = 7;
 pub(crate) const ONLINE: u8 = 8;
 
 pub(crate) const PAGE: u8 = 9;
-
-pub fn choose(b: bool, x: u8, y: u8) -> u8
-    ensures { λ r. ⌜ r ≡ pick b x y ⌝ }
-{
-    if b { x } else { y }
-}
 
 // A refusal after those that gave n: an earlier number stands, else this one is told where its test holds.
 pub fn refuse(n: u8, number: u8, test: bool) -> u8

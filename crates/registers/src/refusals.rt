@@ -1,7 +1,7 @@
 // Document 01, "Numbers a caller may get": what a register access to one card is refused with.
 ghost use mathlib.Core.Path.{_≡_};
 ghost use Rattle.registers.specs.Numbers.{told};
-ghost use Rattle.registers.specs.Refusals.{noRegister, badValue, busy, oddPage, readRefusals, writeRefusals};
+ghost use Rattle.registers.specs.Refusals.{noRegister, badValue, busy, chainBusy, oddPage, readRefusals, writeRefusals};
 use crate::commands::Command;
 use crate::commands::decode;
 use crate::numbers::BUSY;
@@ -13,12 +13,12 @@ use crate::numbers::PAGE;
 use crate::numbers::REGISTER;
 use crate::numbers::VALUE;
 use crate::numbers::refuse;
-use crate::regs::CONFIGURATION;
-use crate::regs::MASK;
-use crate::regs::MODE;
-use crate::regs::RDDATA;
 use crate::regs::Regs;
-use crate::regs::SETUP;
+use bits::flags::MASK;
+use bits::flags::MODE;
+use bits::flags::RDDATA;
+use bits::flags::SETUP;
+use queues::queues::Way;
 
 impl Regs {
     // REGISTER: no such register, or none at this sub-address.
@@ -33,9 +33,8 @@ impl Regs {
         ensures { λ r. ⌜ r ≡ badValue self register value ⌝ }
     {
         (register == 0) & (value & !MASK != 0)
-            | (register == 1) & decode(value).illegal()
+            | (register == 1) & decode(value).illegal(self.chaining())
             | (register == 2) & (value & !MODE != 0)
-            | (register == 6) & (value & !CONFIGURATION != 0)
             | (register == 7) & (self.sub_address() == 2) & (value & !SETUP != 0)
     }
 
@@ -47,11 +46,25 @@ impl Regs {
             Command::Illegal => false,
             Command::DisableTransmitter => false,
             Command::DisableReceiver => false,
-            Command::EnableTransmit(_) => self.transmitting(),
-            Command::EnableReceive(_, _) => self.receiving(),
+            Command::EnableTransmit(_) => {
+                self.side(Way::Transmit)
+                    .full(Way::Transmit, self.chaining())
+            }
+            Command::EnableReceive(_, _) => {
+                self.side(Way::Receive).full(Way::Receive, self.chaining())
+            }
             Command::LongPackets(_) => self.transmitting() | self.receiving(),
             Command::ClearFlags(_, _) => false,
+            Command::ClearTransmit => false,
+            Command::ClearReceive => false,
         }
+    }
+
+    // BUSY: CCHEN changes while something waits.
+    fn chain_busy(self, value: u8) -> bool
+        ensures { λ r. ⌜ r ≡ chainBusy self value ⌝ }
+    {
+        self.changes_chaining(value) & (self.transmitting() | self.receiving())
     }
 
     // PAGE: an Enable of an odd page with long packets.
@@ -66,6 +79,8 @@ impl Regs {
             Command::EnableReceive(page, _) => (page & 1 != 0) & (self.long == 1),
             Command::LongPackets(_) => false,
             Command::ClearFlags(_, _) => false,
+            Command::ClearTransmit => false,
+            Command::ClearReceive => false,
         }
     }
 
@@ -86,7 +101,8 @@ impl Regs {
         let n = refuse(n, VALUE, self.bad_value(register, value));
         let n = refuse(n, NOTREADY, (register == 1) & !self.awake());
         let n = refuse(n, DIRECTION, (register == 4) & (self.mode & RDDATA != 0));
-        let n = refuse(n, BUSY, (register == 1) & self.busy(command));
+        let busy = (register == 1) & self.busy(command);
+        let n = refuse(n, BUSY, busy | (register == 6) & self.chain_busy(value));
         let n = refuse(n, ONLINE, self.on_line() & self.writes_id(register));
         refuse(n, PAGE, (register == 1) & self.odd_page(command))
     }

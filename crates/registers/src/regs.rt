@@ -1,68 +1,38 @@
 // Document 01, "The saved network" and "Registers": the registers of a card by value, their bits, awake and on line, the
 // hardware reset and the interrupt. Each method hands the registers back.
 ghost use mathlib.Core.Path.{_≡_};
+ghost use Rattle.registers.specs.Sides.{chaining, sideOf, withSide};
 ghost use Rattle.registers.specs.Fit.{awake, onLine, fit};
 ghost use Rattle.registers.specs.Registers.{hardwareReset, interrupt};
-
-pub const RI: u8 = 1 << 7;
-
-pub const POR: u8 = 1 << 4;
-
-pub const RECON: u8 = 1 << 2;
-
-pub const TMA: u8 = 1 << 1;
-
-pub const TA: u8 = 1;
-
-pub(crate) const MYRECON: u8 = 1 << 7;
-
-pub(crate) const DUPID: u8 = 1 << 6;
-
-pub(crate) const RCVACT: u8 = 1 << 5;
-
-pub(crate) const TOKEN: u8 = 1 << 4;
-
-const EXCNAK: u8 = 1 << 3;
-
-pub(crate) const TENTID: u8 = 1 << 2;
-
-pub(crate) const RESET: u8 = 1 << 7;
-
-const CCHEN: u8 = 1 << 6;
-
-const TXEN: u8 = 1 << 5;
-
-pub(crate) const RDDATA: u8 = 1 << 7;
-
-pub(crate) const AUTO_INC: u8 = 1 << 6;
-
-pub(crate) const CANCEL: u8 = 1 << 7;
-
-pub const BROADCASTS: u8 = 1 << 6;
-
-const LOW2: u8 = 3;
-
-// The bits that have a name; the others are zero.
-const STATUS: u8 = RI | POR | RECON | TMA | TA;
-
-const DIAGNOSTIC: u8 = MYRECON | DUPID | RCVACT | TOKEN | TENTID;
-
-pub(crate) const MASK: u8 = RI | EXCNAK | RECON | TA;
-
-pub(crate) const CONFIGURATION: u8 = !CCHEN;
-
-pub(crate) const SETUP: u8 = 7;
-
-pub(crate) const MODE: u8 = RDDATA | AUTO_INC | LOW2;
+use bits::choice::either;
+use bits::flags::CCHEN;
+use bits::flags::DIAGNOSTIC;
+use bits::flags::LOW2;
+use bits::flags::MASK;
+use bits::flags::MODE;
+use bits::flags::POR;
+use bits::flags::RECON;
+use bits::flags::RESET;
+use bits::flags::RI;
+use bits::flags::SETUP;
+use bits::flags::STATUS;
+use bits::flags::TA;
+use bits::flags::TXEN;
+use queues::queues::Queue;
+use queues::queues::Side;
+use queues::queues::Way;
 
 // "status 91 hex", after a reset of either kind.
 pub(crate) const AFTER_RESET: u8 = RI | POR | TA;
 
-const TRANSMIT: u8 = CANCEL | LOW2;
+// Bytes 32 to 34 of a row: zero, until C-13 and C-16 use them.
+pub struct Later {
+    pub fetched: u8,
+    pub naklow: u8,
+    pub nakhigh: u8,
+}
 
-const RECEIVE: u8 = CANCEL | BROADCASTS | LOW2;
-
-// Bytes 2 to 15 of a row, in their order.
+// Bytes 2 to 19 and 32 to 34 of a row; a queue has three of them.
 pub struct Regs {
     pub id: u8,
     pub status: u8,
@@ -75,9 +45,10 @@ pub struct Regs {
     pub high: u8,
     pub low: u8,
     pub mode: u8,
-    pub transmit: u8,
-    pub receive: u8,
+    pub transmit: Queue,
+    pub receive: Queue,
     pub long: u8,
+    pub later: Later,
 }
 
 impl Regs {
@@ -95,33 +66,82 @@ impl Regs {
         self.awake() & (self.configuration & TXEN != 0)
     }
 
+    // CCHEN is set.
+    pub fn chaining(self) -> bool
+        ensures { λ r. ⌜ r ≡ chaining self ⌝ }
+    {
+        self.configuration & CCHEN != 0
+    }
+
+    pub(crate) fn side(self, way: Way) -> Side
+        ensures { λ r. ⌜ r ≡ sideOf way self ⌝ }
+    {
+        let status = self.status;
+        match way {
+            Way::Transmit => {
+                let queue = self.transmit;
+                Side { status, queue }
+            }
+            Way::Receive => {
+                let queue = self.receive;
+                Side { status, queue }
+            }
+        }
+    }
+
+    // The card with a side as it has become.
+    pub(crate) fn with_side(self, way: Way, s: Side) -> Regs
+        ensures { λ r. ⌜ r ≡ withSide way s self ⌝ }
+    {
+        let q = s.queue;
+        let mut g = self;
+        g.status = s.status;
+        match way {
+            Way::Transmit => {
+                g.transmit.oldest = q.oldest;
+                g.transmit.second = q.second;
+                g.transmit.done = q.done;
+                g
+            }
+            Way::Receive => {
+                g.receive.oldest = q.oldest;
+                g.receive.second = q.second;
+                g.receive.done = q.done;
+                g
+            }
+        }
+    }
+
     // No unnamed bit is set, and the bytes agree with each other.
     pub fn fit(self) -> bool
         ensures { λ r. ⌜ r ≡ fit self ⌝ }
     {
-        let short = self.long != 1;
-        let ta = self.status & TA != 0;
-        let ri = self.status & RI != 0;
-        (self.status & !STATUS == 0)
+        let chaining = self.chaining();
+        let named = (self.status & !STATUS == 0)
             & (self.diagnostic & !DIAGNOSTIC == 0)
             & (self.mask & !MASK == 0)
-            & (self.configuration & !CONFIGURATION == 0)
             & (self.setup & !SETUP == 0)
             & (self.high & !LOW2 == 0)
             & (self.mode & !MODE == 0)
-            & (self.transmit & !TRANSMIT == 0)
-            & (self.receive & !RECEIVE == 0)
             & (self.long & !1 == 0)
-            & ((self.status & TA == 0) | (self.transmit == 0))
-            & ((self.status & RI == 0) | (self.receive == 0))
-            & ((self.status & TMA == 0) | ta)
-            & (short | ta | (self.transmit & 1 == 0))
-            & (short | ri | (self.receive & 1 == 0))
+            & (self.later.fetched == 0)
+            & (self.later.naklow == 0)
+            & (self.later.nakhigh == 0);
+        named
+            & self.side(Way::Transmit)
+                .fit(Way::Transmit, chaining, self.long)
+            & self.side(Way::Receive)
+                .fit(Way::Receive, chaining, self.long)
     }
 
     pub fn hardware_reset() -> Regs
         ensures { λ r. ⌜ r ≡ hardwareReset ⌝ }
     {
+        let later = Later {
+            fetched: 0,
+            naklow: 0,
+            nakhigh: 0,
+        };
         Regs {
             id: 0,
             status: AFTER_RESET,
@@ -134,18 +154,22 @@ impl Regs {
             high: 0,
             low: 0,
             mode: 0,
-            transmit: 0,
-            receive: 0,
+            transmit: Queue::none(),
+            receive: Queue::none(),
             long: 0,
+            later,
         }
     }
 
     pub fn interrupt(self) -> bool
         ensures { λ r. ⌜ r ≡ interrupt self ⌝ }
     {
+        let chaining = self.chaining();
+        let received = either(chaining, self.receive.uncleared(), self.status & RI != 0);
+        let sent = either(chaining, self.transmit.uncleared(), self.status & TA != 0);
         (self.status & POR != 0)
-            | (self.status & RI != 0) & (self.mask & RI != 0)
+            | received & (self.mask & RI != 0)
             | (self.status & RECON != 0) & (self.mask & RECON != 0)
-            | (self.status & TA != 0) & (self.mask & TA != 0)
+            | sent & (self.mask & TA != 0)
     }
 }

@@ -111,7 +111,7 @@ pub fn top_id(net: &[u8], n: usize) -> u8
     let mut k = 0;
     while k < n {
         let g = regs_at(net, k);
-        top = registers::numbers::choose(g.on_line() & (top < g.id), g.id, top);
+        top = bits::choice::choose(g.on_line() & (top < g.id), g.id, top);
         k += 1;
     }
     top
