@@ -150,26 +150,13 @@ impl Regs {
         ensures { λ r. ⌜ r ≡ commanded self command ⌝ }
     {
         let mut g = self;
-        let chaining = self.chaining();
-        let transmit = self.side(Way::Transmit);
-        let receive = self.side(Way::Receive);
         match command {
             Command::Illegal => g,
-            Command::DisableTransmitter => {
-                self.with_side(Way::Transmit, transmit.disabled(Way::Transmit))
-            }
-            Command::DisableReceiver => {
-                self.with_side(Way::Receive, receive.disabled(Way::Receive))
-            }
-            Command::EnableTransmit(page) => {
-                self.with_side(
-                    Way::Transmit,
-                    transmit.enabled(Way::Transmit, chaining, page),
-                )
-            }
+            Command::DisableTransmitter => self.disabled(Way::Transmit),
+            Command::DisableReceiver => self.disabled(Way::Receive),
+            Command::EnableTransmit(page) => self.enabled(Way::Transmit, page),
             Command::EnableReceive(page, broadcasts) => {
-                let entry = choose(broadcasts, page | BROADCASTS, page);
-                self.with_side(Way::Receive, receive.enabled(Way::Receive, chaining, entry))
+                self.enabled(Way::Receive, choose(broadcasts, page | BROADCASTS, page))
             }
             Command::LongPackets(on) => {
                 g.long = on;
@@ -179,10 +166,8 @@ impl Regs {
                 g.status = self.status & !choose(recon, RECON, 0) & !choose(por, POR, 0);
                 g
             }
-            Command::ClearTransmit => {
-                self.with_side(Way::Transmit, transmit.cleared(Way::Transmit))
-            }
-            Command::ClearReceive => { self.with_side(Way::Receive, receive.cleared(Way::Receive)) }
+            Command::ClearTransmit => self.cleared(Way::Transmit),
+            Command::ClearReceive => self.cleared(Way::Receive),
         }
     }
 

@@ -1,6 +1,6 @@
 // Document 01, "One line step": what the line does to one card's registers, and what it asks of them.
 ghost use mathlib.Core.Path.{_≡_};
-ghost use Rattle.registers.specs.Events.{burst, recovered, heard, answered, risenNid, transmitCancelled, receiveCancelled, cancelled, sent, enquired, received, transmitting, receiving, takesBroadcasts, transmitPage, receivePage};
+ghost use Rattle.registers.specs.Events.{burst, recovered, heard, answered, risenNid, cancelled, sent, enquired, received, transmitting, receiving, takesBroadcasts, transmitPage, receivePage};
 use crate::regs::Regs;
 use bits::choice::choose;
 use bits::flags::BROADCASTS;
@@ -75,38 +75,18 @@ impl Regs {
         g
     }
 
-    fn transmit_cancelled(self) -> Regs
-        ensures { λ r. ⌜ r ≡ transmitCancelled self ⌝ }
-    {
-        self.with_side(
-            Way::Transmit,
-            self.side(Way::Transmit).cancelled(Way::Transmit),
-        )
-    }
-
-    fn receive_cancelled(self) -> Regs
-        ensures { λ r. ⌜ r ≡ receiveCancelled self ⌝ }
-    {
-        self.with_side(
-            Way::Receive,
-            self.side(Way::Receive).cancelled(Way::Receive),
-        )
-    }
-
     // The cancels that were asked take effect.
     pub fn cancelled(self) -> Regs
         ensures { λ r. ⌜ r ≡ cancelled self ⌝ }
     {
-        self.transmit_cancelled().receive_cancelled()
+        self.relieved(Way::Transmit).relieved(Way::Receive)
     }
 
     // The transmit ends, acknowledged or not.
     pub fn sent(self, acknowledged: bool) -> Regs
         ensures { λ r. ⌜ r ≡ sent self acknowledged ⌝ }
     {
-        let s = self.side(Way::Transmit)
-            .ended(Way::Transmit, self.chaining(), acknowledged);
-        self.with_side(Way::Transmit, s)
+        self.ended(Way::Transmit, acknowledged)
     }
 
     // An enquiry of this card's own that no packet followed: NAK answered it, or nobody did.
@@ -123,9 +103,7 @@ impl Regs {
     pub fn received(self) -> Regs
         ensures { λ r. ⌜ r ≡ received self ⌝ }
     {
-        let s = self.side(Way::Receive)
-            .ended(Way::Receive, self.chaining(), false);
-        self.with_side(Way::Receive, s)
+        self.ended(Way::Receive, false)
     }
 
     pub fn transmitting(self) -> bool

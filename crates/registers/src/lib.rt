@@ -6,3 +6,4 @@ pub mod events;
 pub mod numbers;
 pub mod refusals;
 pub mod regs;
+pub mod sides;

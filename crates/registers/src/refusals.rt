@@ -46,13 +46,8 @@ impl Regs {
             Command::Illegal => false,
             Command::DisableTransmitter => false,
             Command::DisableReceiver => false,
-            Command::EnableTransmit(_) => {
-                self.side(Way::Transmit)
-                    .full(Way::Transmit, self.chaining())
-            }
-            Command::EnableReceive(_, _) => {
-                self.side(Way::Receive).full(Way::Receive, self.chaining())
-            }
+            Command::EnableTransmit(_) => self.full(Way::Transmit),
+            Command::EnableReceive(_, _) => self.full(Way::Receive),
             Command::LongPackets(_) => self.transmitting() | self.receiving(),
             Command::ClearFlags(_, _) => false,
             Command::ClearTransmit => false,

@@ -1,11 +1,9 @@
 // Document 01, "The saved network" and "Registers": the registers of a card by value, their bits, awake and on line, the
 // hardware reset and the interrupt. Each method hands the registers back.
 ghost use mathlib.Core.Path.{_≡_};
-ghost use Rattle.registers.specs.Sides.{chaining, sideOf, withSide};
 ghost use Rattle.registers.specs.Fit.{awake, onLine, fit};
 ghost use Rattle.registers.specs.Registers.{hardwareReset, interrupt};
 use bits::choice::either;
-use bits::flags::CCHEN;
 use bits::flags::DIAGNOSTIC;
 use bits::flags::LOW2;
 use bits::flags::MASK;
@@ -19,7 +17,6 @@ use bits::flags::STATUS;
 use bits::flags::TA;
 use bits::flags::TXEN;
 use queues::queues::Queue;
-use queues::queues::Side;
 use queues::queues::Way;
 
 // "status 91 hex", after a reset of either kind.
@@ -64,52 +61,6 @@ impl Regs {
         ensures { λ r. ⌜ r ≡ onLine self ⌝ }
     {
         self.awake() & (self.configuration & TXEN != 0)
-    }
-
-    // CCHEN is set.
-    pub fn chaining(self) -> bool
-        ensures { λ r. ⌜ r ≡ chaining self ⌝ }
-    {
-        self.configuration & CCHEN != 0
-    }
-
-    pub(crate) fn side(self, way: Way) -> Side
-        ensures { λ r. ⌜ r ≡ sideOf way self ⌝ }
-    {
-        let status = self.status;
-        match way {
-            Way::Transmit => {
-                let queue = self.transmit;
-                Side { status, queue }
-            }
-            Way::Receive => {
-                let queue = self.receive;
-                Side { status, queue }
-            }
-        }
-    }
-
-    // The card with a side as it has become.
-    pub(crate) fn with_side(self, way: Way, s: Side) -> Regs
-        ensures { λ r. ⌜ r ≡ withSide way s self ⌝ }
-    {
-        let q = s.queue;
-        let mut g = self;
-        g.status = s.status;
-        match way {
-            Way::Transmit => {
-                g.transmit.oldest = q.oldest;
-                g.transmit.second = q.second;
-                g.transmit.done = q.done;
-                g
-            }
-            Way::Receive => {
-                g.receive.oldest = q.oldest;
-                g.receive.second = q.second;
-                g.receive.done = q.done;
-                g
-            }
-        }
     }
 
     // No unnamed bit is set, and the bytes agree with each other.

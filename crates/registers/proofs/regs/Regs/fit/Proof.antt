@@ -1,11 +1,15 @@
--- `registers::regs::Regs::fit` meets its contract: the code is the definition, word for word. Assumes nothing.
+-- `registers::regs::Regs::fit` meets its contract. Assumes nothing.
 use Rattle.registers.specs.Fit.{fit}
 use borrow.Author.Needs.{needs}
 use Rattle.registers.proofs.regs.Regs.fit.Statement.{statement}
 use Rattle.registers.proofs.regs.Regs.fit.Tie as tie
 
-pub fit-spec : {M : Type 1} → statement M
+returns : tie.Need-returns
 unfolding fit
-fit-spec =
-    tie.close
-    (tie.spec (λ c. search needs))
+returns c = 
+    let t = c .before .before in
+    let k = t .before .before .before .before .before .before .before .before .before .before .before .before in
+    simp (c .fit2 .ensures, c .before .side2 .ensures, t .fit .ensures, t .before .side .ensures, k .chaining .ensures)
+
+pub fit-spec : {M : Type 1} → statement M
+fit-spec = tie.close (tie.spec (λ c κs. search needs) (λ c κs. search needs) (λ c κs. search needs) (λ c κs. search needs) (λ c κs. search needs) returns)

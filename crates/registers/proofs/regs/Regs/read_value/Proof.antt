@@ -7,7 +7,7 @@ use Rattle.registers.proofs.regs.Regs.read_value.Tie as tie
 
 returns : tie.Need-returns
 unfolding readValue
-returns c = simp (c .match .keys1)
+returns c = simp (c .shown .ensures, c .before .match .keys1)
 
 returns-2 : tie.Need-returns-2
 unfolding readValue
@@ -42,5 +42,5 @@ returns-8 c =
 pub read-value-spec : {M : Type 1} → statement M
 read-value-spec =
     tie.close
-    (tie.spec (λ c κs. search needs) returns returns-2 returns-3 returns-4 returns-5 returns-6 returns-7
+    (tie.spec (λ c κs. search needs) (λ c κs. search needs) returns returns-2 returns-3 returns-4 returns-5 returns-6 returns-7
     returns-8)

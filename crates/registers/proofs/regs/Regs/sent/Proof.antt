@@ -6,9 +6,7 @@ use Rattle.registers.proofs.regs.Regs.sent.Tie as tie
 
 returns : tie.Need-returns
 unfolding sent
-returns c = simp (c .choose .ensures)
+returns c = c .ended .ensures
 
 pub sent-spec : {M : Type 1} → statement M
-sent-spec =
-    tie.close
-    (tie.spec (λ c κs. search needs) returns)
+sent-spec = tie.close (tie.spec (λ c κs. search needs) returns)
