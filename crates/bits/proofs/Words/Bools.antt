@@ -65,12 +65,11 @@ or-between true b c h = refl
 or-between false true c h = refl
 or-between false false c h = h
 
-pub or-five : (a b c d e : Bool) → (a || b || c || d || e) ≡ false → (a ≡ false) × (b ≡ false) × (c ≡ false) × (d ≡ false) × (e ≡ false)
-or-five a b c d e h =
-    let p = or-left (a || b || c || d) e h in
-    let q = or-left (a || b || c) d p in
-    let r = or-left (a || b) c q in
-    (or-left a b r, or-right a b r, or-right (a || b) c q, or-right (a || b || c) d p, or-right (a || b || c || d) e h)
+pub or-four : (a b c d : Bool) → (a || b || c || d) ≡ false → (a ≡ false) × (b ≡ false) × (c ≡ false) × (d ≡ false)
+or-four a b c d h =
+    let p = or-left (a || b || c) d h in
+    let q = or-left (a || b) c p in
+    (or-left a b q, or-right a b q, or-right (a || b) c p, or-right (a || b || c) d h)
 
 -- every test of a list that holds whole
 abbrev Each : List Bool → Type 0

@@ -1,27 +1,34 @@
 -- Registers that fit stay so through a reset, a read, and a write that is not refused.
 -- Assumes nothing.
-use mathlib.Core.Path.{_≡_, refl}
+use mathlib.Core.Path.{_≡_, refl, _∙_, ap}
 use mathlib.Core.Bool.{Bool, true, false, not, _&&_, _||_}
 use Prim.Native.Nat.{ℕ, _-_, _/_, _%_, _<_}
 use native.Mathlib.Omega.{arith}
 use borrow.Author.Tests.{eq-eqb, eqb-true, eqb-false, not-false}
 use lib.Bits.{bitAnd}
 use lib.Dec.{eqb, ltb}
+use Rattle.queues.specs.declared.queues.Way.the-variants.{Transmit, Receive}
+use Rattle.queues.specs.declared.queues.Side.{Side}
 use Rattle.registers.specs.declared.regs.Regs.{Regs}
 use Rattle.registers.specs.declared.commands.Command.{Command}
-use Rattle.registers.specs.declared.commands.Command.the-variants.{Illegal, DisableTransmitter, DisableReceiver, EnableTransmit, EnableReceive, LongPackets, ClearFlags}
-use Rattle.bits.specs.Words.{pick, clear, has, lower}
-use Rattle.bits.specs.Flags.{RI, POR, RECON, TMA, TA, LOW2, AUTO-INC, RESET, only, statusBits, maskBits, configurationBits, setupBits, modeBits}
+use Rattle.registers.specs.declared.commands.Command.the-variants.{Illegal, DisableTransmitter, DisableReceiver, EnableTransmit, EnableReceive, LongPackets, ClearFlags, ClearTransmit, ClearReceive}
+use Rattle.bits.specs.Words.{pick, clear, has, raiseIf, lower}
+use Rattle.bits.specs.Flags.{RI, POR, RECON, TMA, TA, LOW2, AUTO-INC, RESET, CCHEN, BROADCASTS, only, statusBits, maskBits, setupBits, modeBits, transmitBits, receiveBits}
 use Rattle.registers.specs.Fields.{with-status, with-configuration}
+use Rattle.registers.specs.Sides.{chaining, sideOf}
 use Rattle.registers.specs.Fit.{fit}
 use Rattle.registers.specs.Commands.{pageOf, commandOf}
-use Rattle.registers.specs.Registers.{sub, risen, stepped, afterRead, hardwareReset, configured, commanded, seventhWritten, afterWrite}
+use Rattle.registers.specs.Registers.{sub, risen, stepped, afterRead, hardwareReset, changesChaining, configured, commanded, seventhWritten, afterWrite}
 use Rattle.registers.specs.Numbers.{REGISTER, VALUE, BUSY, PAGE, refuses}
-use Rattle.registers.specs.Refusals.{noRegister, illegal, badValue, busy, oddPage, writeRefusals, writeNumber}
-use Rattle.bits.proofs.Words.Bools.{or-left, or-right, or-five, pick-of}
+use Rattle.registers.specs.Refusals.{noRegister, illegal, badValue, busy, chainBusy, oddPage, writeRefusals, writeNumber}
+use Rattle.bits.proofs.Words.Bools.{or-left, or-right, or-four, pick-of}
 use Rattle.bits.proofs.Words.Table.{by-table}
+use Rattle.bits.proofs.Words.Masks.{raise-other}
+use Rattle.queues.proofs.Fits.{Fits, fits-none}
+use Rattle.queues.proofs.Changes.{fits-enabled, fits-disabled, fits-cleared}
+use Rattle.queues.proofs.Leaves.{enabled-apart, disabled-apart, cleared-apart}
 use Rattle.registers.proofs.Told.Smallest.{none-refuses}
-use Rattle.registers.proofs.Values.Fits.{Fit}
+use Rattle.registers.proofs.Values.Fits.{Fit, rules-fit}
 use Rattle.registers.proofs.Values.FitBytes as keeps
 
 -- the page and the flag of a decoded command are small
@@ -33,19 +40,20 @@ Small (EnableTransmit p) = p < 4
 Small (EnableReceive p b) = p < 4
 Small (LongPackets l) = l < 2
 Small (ClearFlags p r) = Unit
+Small ClearTransmit = Unit
+Small ClearReceive = Unit
 
 small : (c : ℕ) → Small (commandOf c)
 unfolding commandOf
-small c = split (eqb c 0x01) (eqb c 0x02) (eqb (bitAnd c 0xd7) 0x03) (eqb (bitAnd c 0x57) 0x04) (eqb (bitAnd c 0xf7) 0x05) (eqb (bitAnd c 0xe7) 0x06)
-  where
-    split : (dt dr et er lp cf : Bool) → Small (pick dt DisableTransmitter (pick dr DisableReceiver (pick et (EnableTransmit (pageOf c)) (pick er (EnableReceive (pageOf c) (has 0x80 c)) (pick lp (LongPackets (c / 8 % 2)) (pick cf (ClearFlags (has 0x08 c) (has 0x10 c)) Illegal))))))
-    split true dr et er lp cf = tt
-    split false true et er lp cf = tt
-    split false false true er lp cf = omega arith
-    split false false false true lp cf = omega arith
-    split false false false false true cf = omega arith
-    split false false false false false true = tt
-    split false false false false false false = tt
+small c =
+    pick-of Small (eqb c 0x00) (λ _. tt)
+    (λ _. pick-of Small (eqb c 0x08) (λ _. tt)
+    (λ _. pick-of Small (eqb c 0x01) (λ _. tt)
+    (λ _. pick-of Small (eqb c 0x02) (λ _. tt)
+    (λ _. pick-of Small (eqb (bitAnd c 0xd7) 0x03) (λ _. omega arith)
+    (λ _. pick-of Small (eqb (bitAnd c 0x57) 0x04) (λ _. omega arith)
+    (λ _. pick-of Small (eqb (bitAnd c 0xf7) 0x05) (λ _. omega arith)
+    (λ _. pick-of Small (eqb (bitAnd c 0xe7) 0x06) (λ _. tt) (λ _. tt))))))))
 
 -- a flag that is cleared where b says so
 flag : (g : Regs) → Fit g → (b : Bool) (m : ℕ) → bitAnd (255 - m) (255 - statusBits) ≡ 255 - statusBits → bitAnd (255 - m) TA ≡ TA
@@ -53,19 +61,44 @@ flag : (g : Regs) → Fit g → (b : Bool) (m : ℕ) → bitAnd (255 - m) (255 -
 flag g f true m e ta ri tma = keeps.fit-lower g f m e ta ri tma
 flag g f false m e ta ri tma = keeps.fit-lower g f 0 refl refl refl refl
 
+-- PAGE refuses what the even-page rule forbids
+even-page : (even long : Bool) → (not even && long) ≡ false → (not long || even) ≡ true
+even-page true true h = refl
+even-page true false h = refl
+even-page false true h = cc
+even-page false false h = refl
+
+-- a receive page with its broadcasts bit
+wanted : (p : ℕ) → only receiveBits p ≡ true → (b : Bool) → (only receiveBits (raiseIf b BROADCASTS p) ≡ true) × (clear 1 (raiseIf b BROADCASTS p) ≡ clear 1 p)
+wanted p w true = (raise-other (255 - receiveBits) BROADCASTS p refl ∙ w, raise-other 1 BROADCASTS p refl)
+wanted p w false = (w, refl)
+
 module _ (g : Regs) (f : Fit g) where
+  abbrev t : Side
+  t = sideOf Transmit g
+
+  abbrev r : Side
+  r = sideOf Receive g
+
   fit-commanded : (c : Command) → Small c → busy g c ≡ false → oddPage g c ≡ false → Fit (commanded g c)
   unfolding commanded
   fit-commanded Illegal s b o = f
-  fit-commanded DisableTransmitter s b o = keeps.fit-disable-transmitter g f
-  fit-commanded DisableReceiver s b o = keeps.fit-disable-receiver g f
-  fit-commanded (EnableTransmit p) s b o = keeps.fit-enable-transmit g f p s o
-  fit-commanded (EnableReceive p w) s b o = keeps.fit-enable-receive g f p w s o
+  fit-commanded DisableTransmitter s b o = keeps.fit-side g f Transmit _ (fits-disabled Transmit t (f .transmit)) (λ m p. disabled-apart Transmit m p t)
+  fit-commanded DisableReceiver s b o = keeps.fit-side g f Receive _ (fits-disabled Receive r (f .receive)) (λ m p. disabled-apart Receive m p r)
+  fit-commanded (EnableTransmit p) s b o =
+      keeps.fit-side g f Transmit _ (fits-enabled Transmit t (f .transmit) p b (keeps.low2 transmitBits refl refl refl refl p s) (even-page (clear 1 p) (eqb (g .long) 1) o))
+      (λ m q. enabled-apart Transmit m q t (chaining g) p)
+  fit-commanded (EnableReceive p w) s b o =
+      let e = wanted p (keeps.low2 receiveBits refl refl refl refl p s) w in
+      keeps.fit-side g f Receive _ (fits-enabled Receive r (f .receive) (raiseIf w BROADCASTS p) b (e .0) (rw (e .1) (even-page (clear 1 p) (eqb (g .long) 1) o)))
+      (λ m q. enabled-apart Receive m q r (chaining g) (raiseIf w BROADCASTS p))
   fit-commanded (LongPackets l) s b o =
       let e : only 1 l ≡ true = by-table false (only 1) (λ l. true) 2 refl l s in
       keeps.fit-long g f l e (or-left (clear TA (g .status)) (clear RI (g .status)) b) (or-right (clear TA (g .status)) (clear RI (g .status)) b)
   fit-commanded (ClearFlags p r) s b o =
       flag (with-status (lower (pick r RECON 0) (g .status)) g) (flag g f r RECON refl refl refl refl) p POR refl refl refl refl
+  fit-commanded ClearTransmit s b o = keeps.fit-side g f Transmit _ (fits-cleared Transmit t (f .transmit)) (λ m p. cleared-apart Transmit m p t)
+  fit-commanded ClearReceive s b o = keeps.fit-side g f Receive _ (fits-cleared Receive r (f .receive)) (λ m p. cleared-apart Receive m p r)
 
   fit-stepped : Fit (stepped g)
   unfolding stepped
@@ -74,10 +107,21 @@ module _ (g : Regs) (f : Fit g) where
       pick-of Fit (has AUTO-INC (g .mode))
       (λ e. keeps.fit-pointer g f (risen g / 256) (risen g % 256) (keeps.low2 LOW2 refl refl refl refl (risen g / 256) h)) (λ e. f)
 
-  fit-configured : (v : ℕ) → only configurationBits v ≡ true → Fit (configured g v)
+  -- a configuration with the same CCHEN; with another, where nothing waits; with RESET
+  fit-configured : (v : ℕ) → chainBusy g v ≡ false → Fit (configured g v)
   unfolding configured
-  fit-configured v e =
-      pick-of (λ (h : Regs). Fit (with-configuration v h)) (clear RESET v) (λ _. keeps.fit-configuration g f v e) (λ _. search (f, e))
+  fit-configured v b =
+      pick-of (λ (h : Regs). Fit (with-configuration v h)) (clear RESET v)
+      (λ _. pick-of (λ (h : Regs). Fit (with-configuration v h)) (changesChaining g v)
+      (λ c. let n : (clear TA (g .status) || clear RI (g .status)) ≡ false = rw c at b in
+      let x = fits-none Transmit (has CCHEN v) (g .long) (g .status) (or-left (clear TA (g .status)) (clear RI (g .status)) n) in
+      let y = fits-none Receive (has CCHEN v) (g .long) (g .status) (or-right (clear TA (g .status)) (clear RI (g .status)) n) in
+      search (f, x, y))
+      (λ c. let e : has CCHEN v ≡ chaining g = ap (λ (x : ℕ). not (eqb x 0)) (eqb-true (bitAnd v CCHEN) (bitAnd (g .configuration) CCHEN) (not-false _ c)) in
+      let x : Fits Transmit (has CCHEN v) (g .long) t = rw e (f .transmit) in
+      let y : Fits Receive (has CCHEN v) (g .long) r = rw e (f .receive) in
+      search (f, x, y)))
+      (λ _. let x = fits-none Transmit (has CCHEN v) 0 0x91 refl in let y = fits-none Receive (has CCHEN v) 0 0x91 refl in search (f, x, y))
 
   fit-seventh : (v : ℕ) → eqb (sub g) 3 ≡ false → (eqb (sub g) 2 && not (only setupBits v)) ≡ false → Fit (seventhWritten g v)
   unfolding seventhWritten
@@ -106,39 +150,49 @@ module _ (g : Regs) (f : Fit g) where
     unnamed-mask = eqb k 0 && not (only maskBits v)
 
     abbrev no-command : Bool
-    no-command = eqb k 1 && illegal (commandOf v)
+    no-command = eqb k 1 && illegal (chaining g) (commandOf v)
 
     abbrev unnamed-mode : Bool
     unnamed-mode = eqb k 2 && not (only modeBits v)
 
-    abbrev unnamed-configuration : Bool
-    unnamed-configuration = eqb k 6 && not (only configurationBits v)
-
     abbrev unnamed-setup : Bool
     unnamed-setup = eqb k 7 && eqb (sub g) 2 && not (only setupBits v)
 
-    good : (unnamed-mask ≡ false) × (no-command ≡ false) × (unnamed-mode ≡ false) × (unnamed-configuration ≡ false) × (unnamed-setup ≡ false)
+    good : (unnamed-mask ≡ false) × (no-command ≡ false) × (unnamed-mode ≡ false) × (unnamed-setup ≡ false)
     unfolding writeRefusals badValue
-    good = or-five unnamed-mask no-command unnamed-mode unnamed-configuration unnamed-setup (none VALUE)
+    good = or-four unnamed-mask no-command unnamed-mode unnamed-setup (none VALUE)
+
+    abbrev starts : Bool
+    starts = eqb k 1 && busy g (commandOf v)
+
+    abbrev rechains : Bool
+    rechains = eqb k 6 && chainBusy g v
+
+    idle : (starts ≡ false) × (rechains ≡ false)
+    unfolding writeRefusals
+    idle = (or-left starts rechains (none BUSY), or-right starts rechains (none BUSY))
 
     known : (eqb k 7 && eqb (sub g) 3) ≡ false
     unfolding writeRefusals noRegister
     known = or-right (ltb 7 k || eqb k 5) (eqb k 7 && eqb (sub g) 3) (none REGISTER)
 
     at-seven : k ≡ 7 → Fit (seventhWritten g v)
-    at-seven i = fit-seventh v (rw (eq-eqb _ _ i) at known) (rw (eq-eqb _ _ i) at (good .4))
+    at-seven i = fit-seventh v (rw (eq-eqb _ _ i) at known) (rw (eq-eqb _ _ i) at (good .3))
 
     pub fit-write : Fit (afterWrite g k v)
     unfolding afterWrite writeRefusals
     fit-write =
         pick-of Fit (eqb k 0) (λ i. keeps.fit-mask g f v (not-false _ (rw i at (good .0))))
-        (λ n0. pick-of Fit (eqb k 1) (λ i. fit-commanded (commandOf v) (small v) (rw i at (none BUSY)) (rw i at (none PAGE)))
+        (λ n0. pick-of Fit (eqb k 1) (λ i. fit-commanded (commandOf v) (small v) (rw i at (idle .0)) (rw i at (none PAGE)))
         (λ n1. pick-of Fit (eqb k 2) (λ i. keeps.fit-mode g f v (not-false _ (rw i at (good .2))))
         (λ n2. pick-of Fit (eqb k 3) (λ i. keeps.fit-pointer g f (g .mode % 4) v (keeps.low2 LOW2 refl refl refl refl (g .mode % 4) (omega arith)))
         (λ n3. pick-of Fit (eqb k 4) (λ i. fit-stepped)
-        (λ n4. pick-of Fit (eqb k 6) (λ i. fit-configured v (not-false _ (rw i at (good .3))))
+        (λ n4. pick-of Fit (eqb k 6) (λ i. fit-configured v (rw i at (idle .1)))
         (λ n6. pick-of Fit (eqb k 7) (λ i. at-seven (eqb-true _ _ i)) (λ n7. f)))))))
 
 pub fit-reset : fit hardwareReset ≡ true
-unfolding hardwareReset fit
-fit-reset = refl
+unfolding hardwareReset
+fit-reset =
+    let x = fits-none Transmit false 0 0x91 refl in
+    let y = fits-none Receive false 0 0x91 refl in
+    rules-fit hardwareReset (search (x, y))

@@ -4,15 +4,19 @@ use mathlib.Core.Path.{_≡_, refl, _∙_}
 use mathlib.Core.Bool.{Bool, true, false, not, _&&_}
 use Prim.Native.Nat.{ℕ, _+_, _-_, _%_}
 use lib.Bits.{bitAnd}
-use lib.Dec.{eqb, lit<}
+use lib.Dec.{eqb}
+use Rattle.queues.specs.declared.queues.Way.the-variants.{Transmit, Receive}
 use Rattle.registers.specs.declared.regs.Regs.{Regs}
-use Rattle.bits.specs.Words.{pick, clear, raise, raiseIf, lower}
-use Rattle.bits.specs.Flags.{RI, RECON, TMA, TA, MYRECON, DUPID, RCVACT, TOKEN, TENTID, CANCEL, only, statusBits, diagnosticBits}
-use Rattle.registers.specs.Fields.{with-status, with-nid, with-transmit}
+use Rattle.bits.specs.Words.{pick, raiseIf}
+use Rattle.bits.specs.Flags.{RECON, MYRECON, DUPID, RCVACT, TOKEN, TENTID, only, diagnosticBits}
+use Rattle.registers.specs.Fields.{with-status, with-nid}
+use Rattle.registers.specs.Sides.{chaining, sideOf}
 use Rattle.registers.specs.Fit.{awake, onLine}
-use Rattle.registers.specs.Events.{burst, recovered, heard, answered, risenNid, received, transmitCancelled, cancelled, sent}
+use Rattle.registers.specs.Events.{burst, recovered, heard, answered, risenNid, received, transmitCancelled, receiveCancelled, cancelled, sent}
 use Rattle.bits.proofs.Words.Bools.{pick-of}
-use Rattle.bits.proofs.Words.Masks.{lower-other, raise-other, raise-sets}
+use Rattle.bits.proofs.Words.Masks.{raise-other}
+use Rattle.queues.proofs.Changes.{fits-ended, fits-cancelled}
+use Rattle.queues.proofs.Leaves.{ended-apart, cancelled-apart}
 use Rattle.registers.proofs.Values.Fits.{Fit}
 use Rattle.registers.proofs.Values.FitBytes as keeps
 
@@ -20,11 +24,6 @@ use Rattle.registers.proofs.Values.FitBytes as keeps
 seen : (d : ℕ) (b : Bool) (m : ℕ) → bitAnd m (255 - diagnosticBits) ≡ 0 → only diagnosticBits d ≡ true → only diagnosticBits (raiseIf b m d) ≡ true
 seen d true m h e = raise-other (255 - diagnosticBits) m d h ∙ e
 seen d false m h e = e
-
--- TA set in a status that is otherwise sound, and its receiver as it was
-ended : (g : Regs) → Fit g → (s : ℕ) → only statusBits s ≡ true → clear RI s ≡ clear RI (g .status) → Fit (with-status (raise TA s) (with-transmit 0 g))
-ended g f s e ri =
-    keeps.fit-status-sent g f (raise TA s) (raise-other (255 - statusBits) TA s refl ∙ e) (raise-sets TA TA s (lit< tt)) (raise-other RI TA s refl ∙ ri)
 
 module _ (g : Regs) (f : Fit g) where
   pub fit-burst : Fit (burst g)
@@ -55,23 +54,29 @@ module _ (g : Regs) (f : Fit g) where
   unfolding risenNid
   fit-risen = keeps.fit-nid g f ((g .nid + 1) % 256)
 
+  -- ---- the ends, and the cancels
   pub fit-received : Fit (received g)
   unfolding received
-  fit-received = keeps.fit-status-received g f
+  fit-received =
+      let s = sideOf Receive g in
+      keeps.fit-side g f Receive _ (fits-ended Receive s (f .receive) false) (λ m p. ended-apart Receive m p s (chaining g) false)
 
   pub fit-sent : (a : Bool) → Fit (sent g a)
   unfolding sent
-  fit-sent true =
-      ended g f (raise TMA (g .status)) (raise-other (255 - statusBits) TMA (g .status) refl ∙ f .status) (raise-other RI TMA (g .status) refl)
-  fit-sent false =
-      ended g f (lower TMA (g .status)) (lower-other (255 - statusBits) TMA (g .status) refl ∙ f .status) (lower-other RI TMA (g .status) refl)
+  fit-sent a =
+      let s = sideOf Transmit g in
+      keeps.fit-side g f Transmit _ (fits-ended Transmit s (f .transmit) a) (λ m p. ended-apart Transmit m p s (chaining g) a)
 
   transmit-cancelled : Fit (transmitCancelled g)
-  transmit-cancelled = pick-of Fit (clear CANCEL (g .transmit)) (λ _. f) (λ _. ended g f (g .status) (f .status) refl)
+  transmit-cancelled =
+      let s = sideOf Transmit g in
+      keeps.fit-side g f Transmit _ (fits-cancelled Transmit s (f .transmit)) (λ m p. cancelled-apart Transmit m p s)
+
+  receive-cancelled : Fit (receiveCancelled g)
+  receive-cancelled =
+      let s = sideOf Receive g in
+      keeps.fit-side g f Receive _ (fits-cancelled Receive s (f .receive)) (λ m p. cancelled-apart Receive m p s)
 
 pub fit-cancelled : (g : Regs) → Fit g → Fit (cancelled g)
 unfolding cancelled
-fit-cancelled g f =
-    let t = transmit-cancelled g f in
-    let h = transmitCancelled g in
-    pick-of Fit (clear CANCEL (h .receive)) (λ _. t) (λ _. fit-received h t)
+fit-cancelled g f = receive-cancelled (transmitCancelled g) (transmit-cancelled g f)
