@@ -52,7 +52,7 @@ module _ (w : Way) {c : Bool} {l : ℕ} where
   behind-chains s a t = or-first c false (rw (nonzero (secondFlag w) (s .queue .second) t) at (a .chains)) refl
 
   -- none waits behind it: the byte is zero
-  alone : (s : Side) → Agrees w c l s → two w (s .queue) ≡ false → eqb (s .queue .second) 0 ≡ true
+  pub alone : (s : Side) → Agrees w c l s → two w (s .queue) ≡ false → eqb (s .queue .second) 0 ≡ true
   alone s a t = none (waiting w s) (rw t at (a .behind))
     where
       none : (b : Bool) → (eqb (s .queue .second) 0 || b && false) ≡ true → eqb (s .queue .second) 0 ≡ true

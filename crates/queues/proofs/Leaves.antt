@@ -4,17 +4,18 @@ use mathlib.Core.Path.{_≡_, refl, sym, _∙_, ap}
 use mathlib.Core.Bool.{Bool, true, false, not, _&&_, _||_}
 use Prim.Native.Nat.{ℕ, _+_, _-_}
 use lib.Bits.{bitAnd}
-use lib.Dec.{lit<}
+use lib.Dec.{eqb, lit<}
+use borrow.Author.Tests.{eqb-true}
 use Rattle.queues.specs.declared.queues.Way.{Way}
 use Rattle.queues.specs.declared.queues.Way.the-variants.{Transmit, Receive}
 use Rattle.queues.specs.declared.queues.Side.{Side}
-use Rattle.queues.specs.Queues.{freeFlag, waiting, secondFlag, two, uncleared, KEPT, stored, shows, completed, cleared, lowered, enabled, disabled, gone, ended, secondCancelled, cancelled}
+use Rattle.queues.specs.Queues.{freeFlag, waiting, secondFlag, two, uncleared, KEPT, stored, shows, completed, cleared, lowered, enabled, disabled, movedUp, gone, ended, secondCancelled, cancelled}
 use Rattle.bits.specs.Words.{pick, clear, has, raise, raiseIf, lower, setTo}
 use Rattle.bits.specs.Flags.{TMA, TA, RI, CANCEL, LOW2}
-use Rattle.bits.proofs.Words.Bools.{pick-of}
+use Rattle.bits.proofs.Words.Bools.{and-left, and-right, pick-of}
 use Rattle.bits.proofs.Words.Masks.{lower-other, lower-clears, raise-other, raise-sets, set-other}
-use Rattle.queues.proofs.Fits.{Agrees}
-use Rattle.queues.proofs.Going.{behind-waits, shows-free}
+use Rattle.queues.proofs.Fits.{Agrees, no-second}
+use Rattle.queues.proofs.Going.{behind-waits, alone, shows-free}
 
 -- ---- the flags m that no change of the side speaks of
 abbrev pub Apart : Way → ℕ → Type 0
@@ -71,12 +72,34 @@ module _ (w : Way) (m : ℕ) (p : Apart w m) (s : Side) where
   unfolding cancelled
   cancelled-apart = pick-of (Left w m p s) (clear CANCEL (s .queue .oldest)) (λ _. refl) (λ _. gone-apart w m p (secondCancelled s))
 
+-- ---- what waits: nothing behind a side that is free, and nothing to move up where none waits behind
+module _ (w : Way) {c : Bool} {l : ℕ} (s : Side) (a : Agrees w c l s) where
+  pub none-behind : waiting w s ≡ false → two w (s .queue) ≡ false
+  none-behind e = rw (eqb-true (s .queue .second) 0 (no-second w s a e)) (zero-flag w)
+    where
+      zero-flag : (w : Way) → has (secondFlag w) 0 ≡ false
+      zero-flag Transmit = refl
+      zero-flag Receive = refl
+
+  pub none-up : two w (s .queue) ≡ false → 0 ≡ movedUp w (s .queue)
+  none-up t = rw (eqb-true (s .queue .second) 0 (alone w s a t)) (zero-up w)
+    where
+      zero-up : (w : Way) → 0 ≡ lower (secondFlag w) 0
+      zero-up Transmit = refl
+      zero-up Receive = refl
+
+  -- a side of a row with CCHEN 0 has no second, and no end to be cleared
+  pub unchained : c ≡ false → (s .queue .second ≡ 0) × (s .queue .done ≡ 0)
+  unchained e =
+      let h : (eqb (s .queue .second) 0 && eqb (s .queue .done) 0) ≡ true = rw e at (a .chains) in
+      (eqb-true (s .queue .second) 0 (and-left (eqb (s .queue .second) 0) (eqb (s .queue .done) 0) h), eqb-true (s .queue .done) 0 (and-right (eqb (s .queue .second) 0) (eqb (s .queue .done) 0) h))
+
 -- ---- an end of the oldest
 module _ (w : Way) (c b : Bool) (s : Side) where
   -- TA, or RI, is 1 where none waits behind it; else the second has moved up. It is told in a chaining row
   pub record Ended (t : Side) : Type 0 where
     pub free : clear (freeFlag w) (t .status) ≡ two w (s .queue)
-    pub oldest : t .queue .oldest ≡ pick (two w (s .queue)) (lower (secondFlag w) (s .queue .second)) 0
+    pub oldest : t .queue .oldest ≡ movedUp w (s .queue)
     pub told : uncleared (t .queue) ≡ (c || uncleared (s .queue))
 
   -- what a completion leaves, and tells
@@ -107,10 +130,10 @@ module _ (w : Way) (c b : Bool) (s : Side) where
       split : (d : Bool) → two w (completed w c b s .queue) ≡ d → two w (completed w c b s .queue) ≡ two w (s .queue) → Ended (gone w (completed w c b s))
       split true e i =
           let t : two w (s .queue) ≡ true = sym i ∙ e in
-          rw e (record { free = tells .free ∙ behind-waits w s a t ∙ sym t; oldest = rw (t, tells .second); told = tells .told })
+          rw e (record { free = tells .free ∙ behind-waits w s a t ∙ sym t; oldest = ap (lower (secondFlag w)) (tells .second); told = tells .told })
       split false e i =
           let t : two w (s .queue) ≡ false = sym i ∙ e in
-          rw e (record { free = raised-free w (completed w c b s .status) ∙ sym t; oldest = rw t; told = tells .told })
+          rw e (record { free = raised-free w (completed w c b s .status) ∙ sym t; oldest = none-up w s a t; told = tells .told })
 
 -- TMA: that of the end, but where another is shown
 gone-tma : (s : Side) → clear TMA (gone Transmit s .status) ≡ clear TMA (s .status)

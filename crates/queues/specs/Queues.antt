@@ -95,9 +95,12 @@ disabled w s =
     (with-oldest (raise CANCEL (s .queue .oldest)) s)) s
 
 -- ---- the oldest goes: the second moves up with its mark; where none waits behind it, TA, or RI, is 1 and its byte zero
+abbrev pub movedUp : Way → Queue → ℕ
+movedUp w q = lower (secondFlag w) (q .second)
+
 abbrev pub gone : Way → Side → Side
 gone w s =
-    pick (two w (s .queue)) (with-oldest (lower (secondFlag w) (s .queue .second)) (with-second 0 s))
+    pick (two w (s .queue)) (with-oldest (movedUp w (s .queue)) (with-second 0 s))
     (with-status (raise (freeFlag w) (s .status)) (with-oldest 0 s))
 
 -- "oldest served first": it ends, and that is a completion
