@@ -8,7 +8,7 @@ use lib.Dec.{eqb, leb, ltb}
 use lib.ListN.{length, getD}
 use Rattle.card.specs.declared.packets.Shape.{Shape}
 use Rattle.bits.specs.Words.{among}
-use Rattle.registers.specs.Layout.{at-id, at-long, writeChanges}
+use Rattle.registers.specs.Layout.{writeChanges}
 use Rattle.card.specs.Row.{regsOf}
 use Rattle.card.specs.Access.{pointed}
 use Rattle.card.specs.Packets.{dataAt, headBytes, pageBytes, pageAt, destination, dataNumber, pageData}
@@ -17,10 +17,6 @@ use Rattle.card.specs.Packets.{dataAt, headBytes, pageBytes, pageAt, des
 pub record OnlyAt (moves : ℕ → Bool) (r s : List ℕ) : Type 0 where
   pub size : length s ≡ length r
   pub same : (i : ℕ) → moves i ≡ false → getD s i 0 ≡ getD r i 0
-
--- a byte of the registers, from the node ID to long packets
-abbrev pub inRegisters : ℕ → Bool
-inRegisters i = leb at-id i && leb i at-long
 
 -- what a write of register k may move: the register bytes, and "4 .. writes the RAM byte at the pointer"
 abbrev pub writeMoves : List ℕ → ℕ → ℕ → Bool

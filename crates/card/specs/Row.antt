@@ -8,7 +8,7 @@ use lib.ListN.{getD, take, drop}
 use lib.Seq.{sets}
 use Rattle.registers.specs.declared.regs.Regs.{Regs}
 use Rattle.registers.specs.Registers.{ramBytes}
-use Rattle.registers.specs.Layout.{at-id, at-status, at-diagnostic, at-mask, at-configuration, at-setup, at-tentative, at-nid, at-high, at-low, at-mode, at-transmit, at-receive, at-long, bytesOf}
+use Rattle.registers.specs.Layout.{at-id, at-status, at-diagnostic, at-mask, at-configuration, at-setup, at-tentative, at-nid, at-high, at-low, at-mode, at-transmit, at-receive, at-long, at-second-transmit, at-second-receive, at-sent, at-received, at-fetched, at-nak-low, at-nak-high, bytesOf, laterOf}
 use Rattle.registers.specs.Fit.{fit}
 
 -- "n rows of 1,088 bytes: 64 of registers, then 1,024 of RAM"
@@ -36,26 +36,30 @@ regsOf r = record {
   high = getD r at-high 0;
   low = getD r at-low 0;
   mode = getD r at-mode 0;
-  transmit = getD r at-transmit 0;
-  receive = getD r at-receive 0;
+  transmit = record { oldest = getD r at-transmit 0; second = getD r at-second-transmit 0; done = getD r at-sent 0 };
+  receive = record { oldest = getD r at-receive 0; second = getD r at-second-receive 0; done = getD r at-received 0 };
   long = getD r at-long 0;
+  later = record { fetched = getD r at-fetched 0; naklow = getD r at-nak-low 0; nakhigh = getD r at-nak-high 0 };
 }
 
 -- the row with the registers g at those bytes
 unfoldable pub putRegs : List ℕ → Regs → List ℕ
-putRegs r g = sets r at-id (bytesOf g)
+putRegs r g = sets (sets r at-id (bytesOf g)) at-fetched (laterOf g)
 
--- "16-63 zero"
+-- "16-63 zero", but where registers are
 unfoldable pub zeros : List ℕ → Bool
 zeros [] = true
 zeros (x ∷ l) = eqb x 0 && zeros l
 
-abbrev pub spare : List ℕ → List ℕ
-spare r = take (registerBytes - 16) (drop 16 r)
+abbrev pub stretch : ℕ → ℕ → List ℕ → List ℕ
+stretch a b r = take (b - a) (drop a r)
+
+unfoldable pub spare : List ℕ → Bool
+spare r = zeros (stretch (1 + at-received) at-fetched r) && zeros (stretch (1 + at-nak-high) registerBytes r)
 
 unfoldable pub marked : List ℕ → Bool
 marked r = eqb (getD r 0 0) (getD mark 0 0) && eqb (getD r 1 0) (getD mark 1 0)
 
 -- a row's own well-formedness
 unfoldable pub wellFormed : List ℕ → Bool
-wellFormed r = marked r && fit (regsOf r) && zeros (spare r)
+wellFormed r = marked r && fit (regsOf r) && spare r

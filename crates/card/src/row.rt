@@ -4,6 +4,8 @@ ghost use Prim.Native.Nat.{_<_};
 ghost use lib.ListN.{length, replicate};
 ghost use Rattle.card.specs.Row.{rowBytes, regsOf, putRegs, zeros, wellFormed};
 ghost use Rattle.card.specs.Access.{valueRead, rowAfterRead, ramWritten, rowAfterWrite, rowAfterReset, freshRow};
+use queues::queues::Queue;
+use registers::regs::Later;
 use registers::regs::Regs;
 
 pub(crate) const REGISTER_BYTES: usize = 64;
@@ -17,6 +19,21 @@ pub fn load(row: &[u8]) -> Regs
     requires { ⌜ length (now row) ≡ rowBytes ⌝ }
     ensures { λ r. ⌜ r ≡ regsOf (now (row .entry)) ⌝ }
 {
+    let transmit = Queue {
+        oldest: row[13],
+        second: row[16],
+        done: row[18],
+    };
+    let receive = Queue {
+        oldest: row[14],
+        second: row[17],
+        done: row[19],
+    };
+    let later = Later {
+        fetched: row[32],
+        naklow: row[33],
+        nakhigh: row[34],
+    };
     Regs {
         id: row[2],
         status: row[3],
@@ -29,13 +46,14 @@ pub fn load(row: &[u8]) -> Regs
         high: row[10],
         low: row[11],
         mode: row[12],
-        transmit: row[13],
-        receive: row[14],
+        transmit,
+        receive,
         long: row[15],
+        later,
     }
 }
 
-// The registers are written to bytes 2 to 15; no other byte changes.
+// The registers are written to bytes 2 to 19 and 32 to 34; no other byte changes.
 pub fn store(row: &mut [u8], g: Regs)
     requires { ⌜ length (now row) ≡ rowBytes ⌝ }
     ensures { λ _. ⌜ now (row .exit) ≡ putRegs (now (row .entry)) g ⌝ }
@@ -51,9 +69,16 @@ pub fn store(row: &mut [u8], g: Regs)
     row[10] = g.high;
     row[11] = g.low;
     row[12] = g.mode;
-    row[13] = g.transmit;
-    row[14] = g.receive;
+    row[13] = g.transmit.oldest;
+    row[14] = g.receive.oldest;
     row[15] = g.long;
+    row[16] = g.transmit.second;
+    row[17] = g.receive.second;
+    row[18] = g.transmit.done;
+    row[19] = g.receive.done;
+    row[32] = g.later.fetched;
+    row[33] = g.later.naklow;
+    row[34] = g.later.nakhigh;
 }
 
 // Each byte is zero.
@@ -81,13 +106,14 @@ pub fn fill_zero(s: &mut [u8])
     }
 }
 
-// The row's own well-formedness: its mark, its registers, and zeros in bytes 16 to 63.
+// The row's own well-formedness: its mark, its registers, and zeros in the other bytes up to 63.
 pub fn well_formed(row: &[u8]) -> bool
     requires { ⌜ length (now row) ≡ rowBytes ⌝ }
     ensures { λ r. ⌜ r ≡ wellFormed (now (row .entry)) ⌝ }
 {
     let g = load(row);
-    ((row[0] == MARK[0]) & (row[1] == MARK[1])) & g.fit() & all_zero(&row[16..REGISTER_BYTES])
+    let spare = all_zero(&row[20..32]) & all_zero(&row[35..REGISTER_BYTES]);
+    ((row[0] == MARK[0]) & (row[1] == MARK[1])) & g.fit() & spare
 }
 
 // A new row, whatever the bytes were.

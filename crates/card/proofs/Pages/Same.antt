@@ -10,12 +10,12 @@ use Rattle.card.specs.Row.{regsOf}
 use Rattle.card.specs.Packets.{dataAt, pageAt, pageShape, destination, dataRefusals, dataNumber, pageData}
 use Rattle.card.specs.Moves.{Holds}
 
-module _ (r s : List ℕ) (size : length s ≡ length r) (long : regsOf s .long ≡ regsOf r .long) (ram : (i : ℕ) → 16 ≤ i → getD s i 0 ≡ getD r i 0) (p : ℕ) where
+module _ (r s : List ℕ) (size : length s ≡ length r) (long : regsOf s .long ≡ regsOf r .long) (ram : (i : ℕ) → registerBytes ≤ i → getD s i 0 ≡ getD r i 0) (p : ℕ) where
   pub shape-same : pageShape s p ≡ pageShape r p
   unfolding pageShape
   shape-same = rw (long, ram (pageAt p + 2) (omega arith), ram (pageAt p + 3) (omega arith))
 
-  from-same : (a : ℕ) → 16 ≤ a → drop a s ≡ drop a r
+  from-same : (a : ℕ) → registerBytes ≤ a → drop a s ≡ drop a r
   from-same a h =
       ext-getD 0 (drop a s) (drop a r) (rw (length-drop a s, length-drop a r, size)) (λ i _. getD-drop a s i 0 ∙ ram (a + i) (omega arith) ∙ sym (getD-drop a r i 0))
 
@@ -32,7 +32,7 @@ module _ (r s : List ℕ) (size : length s ≡ length r) (long : regsOf s .long 
   did-same = ram (pageAt p + 1) (omega arith)
 
 -- a page that holds what was sent does so while its row's RAM and its long packets stay
-pub holds-same : (r : List ℕ) (p : ℕ) (s t : List ℕ) (q : ℕ) → length t ≡ length s → regsOf t .long ≡ regsOf s .long → ((i : ℕ) → 16 ≤ i → getD t i 0 ≡ getD s i 0)
+pub holds-same : (r : List ℕ) (p : ℕ) (s t : List ℕ) (q : ℕ) → length t ≡ length s → regsOf t .long ≡ regsOf s .long → ((i : ℕ) → registerBytes ≤ i → getD t i 0 ≡ getD s i 0)
     → Holds r p s q → Holds r p t q
 holds-same r p s t q size long ram h = record {
   readable = number-same s t size long ram q ∙ h .readable;

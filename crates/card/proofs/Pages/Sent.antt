@@ -75,7 +75,7 @@ stamped-here x p b = getD-set-same x (pageAt p) (regsOf x .id) 0 b
 
 -- the row s, which is r but for registers other than its ID and its long packets, is stamped and its packet read out
 module _ (r s : List ℕ) (p : ℕ) (h : p < 4) (size : length s ≡ length r) (l : length r ≡ rowBytes) (id : regsOf s .id ≡ regsOf r .id)
-    (long : regsOf s .long ≡ regsOf r .long) (ram : (i : ℕ) → 16 ≤ i → getD s i 0 ≡ getD r i 0) (m : malformed (pageShape r p) ≡ false) where
+    (long : regsOf s .long ≡ regsOf r .long) (ram : (i : ℕ) → registerBytes ≤ i → getD s i 0 ≡ getD r i 0) (m : malformed (pageShape r p) ≡ false) where
   pub sent-from : SentFrom r p (packetAt (stamped s p) p)
   sent-from =
       let ls : length s ≡ rowBytes = size ∙ l in

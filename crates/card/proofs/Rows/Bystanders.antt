@@ -20,7 +20,7 @@ use Rattle.card.specs.Moves.{Holds}
 use Rattle.registers.proofs.Values.Fits.{Fit}
 use Rattle.registers.proofs.Values.Ends.{received-ends, received-page, received-long, receive-page-small, receive-page-even}
 use Rattle.registers.proofs.Values.Listens.{Wakes, wakes-same, wakes-then, receive-page-same}
-use Rattle.card.proofs.Rows.Bytes.{length-put, put-rest, regs-put}
+use Rattle.card.proofs.Rows.Bytes.{length-put, put-ram, regs-put}
 use Rattle.card.proofs.Pages.Stored.{length-stored}
 use Rattle.card.proofs.Pages.Waiting.{receive-room}
 use Rattle.card.proofs.Pages.Same.{holds-same}
@@ -42,7 +42,7 @@ storable-long g c e = e
 pub record Bystander (r s : List ℕ) : Type 0 where
   pub size : length s ≡ length r
   pub registers : Wakes (regsOf r) (regsOf s)
-  pub behind : (i : ℕ) → 16 ≤ i → getD s i 0 ≡ getD r i 0
+  pub behind : (i : ℕ) → registerBytes ≤ i → getD s i 0 ≡ getD r i 0
 
 pub bystander-same : (r : List ℕ) → Bystander r r
 bystander-same r = record { size = refl; registers = wakes-same (regsOf r); behind = λ i h. refl }
@@ -54,8 +54,8 @@ bystander-then r s t a b = record {
   behind = λ i h. b .behind i h ∙ a .behind i h;
 }
 
-pub bystander-put : (r : List ℕ) (g : Regs) → 16 ≤ length r → Wakes (regsOf r) g → Bystander r (putRegs r g)
-bystander-put r g h b = record { size = length-put r g; registers = rw (regs-put r g h) b; behind = put-rest r g }
+pub bystander-put : (r : List ℕ) (g : Regs) → registerBytes ≤ length r → Wakes (regsOf r) g → Bystander r (putRegs r g)
+bystander-put r g h b = record { size = length-put r g; registers = rw (regs-put r g h) b; behind = put-ram r g }
 
 -- ---- a row that stored what another sends from page p: RI was 0; "RI = 1, byte 14 zero", and the receive page holds the packet
 module _ (sender : List ℕ) (p : ℕ) where
@@ -109,5 +109,5 @@ module _ (sender : List ℕ) (p : ℕ) (ls : length sender ≡ rowBytes) (lp : p
         waited = w;
         filled = rw e (received-ends (regsOf with-packet));
         ended = rw e (received-page (regsOf with-packet));
-        holds = holds-same sender p with-packet _ q (length-put with-packet g) (rw e (received-long (regsOf with-packet))) (put-rest with-packet g) h;
+        holds = holds-same sender p with-packet _ q (length-put with-packet g) (rw e (received-long (regsOf with-packet))) (put-ram with-packet g) h;
       }

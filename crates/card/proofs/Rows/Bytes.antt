@@ -1,19 +1,22 @@
 -- A row's bytes and its registers: what writing the registers changes, and what it leaves.
 -- Assumes nothing.
 use mathlib.Core.Path.{_≡_, refl, sym, _∙_, ap}
-use mathlib.Core.Bool.{true, _&&_}
+use mathlib.Core.Bool.{true, false, _&&_}
+use mathlib.Core.Logic.{⊎-elim}
 use mathlib.Core.List.{List, [], _∷_}
 use Prim.Native.Nat.{ℕ, zero, suc, _+_, _-_, _≤_, _<_}
 use native.Mathlib.Nat.{not-suc-le-zero, add-zero}
 use native.Mathlib.Omega.{arith}
-use lib.Dec.{lit<}
+use borrow.Author.Tests.{leb-true, leb-false}
+use lib.Dec.{leb, lit<, lit≤}
 use lib.ListN.{length, getD, set, drop, length-set, length-drop}
 use lib.Seq.{sets, length-sets, getD-set-other, getD-set-same, getD-take, getD-drop, ext-getD, length-take-le}
 use Rattle.registers.specs.declared.regs.Regs.{Regs}
-use Rattle.card.specs.Row.{registerBytes, regsOf, putRegs, spare, zeros, marked, wellFormed}
-use Rattle.registers.specs.Layout.{bytesOf}
+use Rattle.card.specs.Row.{registerBytes, regsOf, putRegs, stretch, spare, marked, wellFormed}
+use Rattle.registers.specs.Layout.{at-id, at-received, at-fetched, at-nak-high, bytesOf, laterOf, held}
 use Rattle.registers.specs.Fit.{fit}
-use Rattle.bits.proofs.Words.Bools.{and-left, and-right}
+use Rattle.bits.proofs.Words.Bools.{cases, and-left, and-right, and-false, or-left, or-right}
+use Rattle.bits.proofs.Words.Table.{by-table}
 
 -- ---- a run of stores: below it, above it, and in it
 module _ (k : ℕ) where
@@ -35,72 +38,75 @@ within l i (a ∷ vs) (suc k) h hk =
     ∙ within (set l i a) (suc i) vs k (simp length-set (omega arith)) (omega arith)
 
 -- ---- the registers of two rows that agree
-pub regs-same : (r s : List ℕ) → ((i : ℕ) → i < 16 → getD s i 0 ≡ getD r i 0) → regsOf s ≡ regsOf r
+pub regs-same : (r s : List ℕ) → ((i : ℕ) → i < registerBytes → getD s i 0 ≡ getD r i 0) → regsOf s ≡ regsOf r
 unfolding regsOf
-regs-same r s e =
-    rw (e 2 (lit< tt), e 3 (lit< tt), e 4 (lit< tt), e 5 (lit< tt), e 6 (lit< tt), e 7 (lit< tt), e 8 (lit< tt), e 9 (lit< tt), e 10 (lit< tt), e 11 (lit< tt), e 12 (lit< tt), e 13 (lit< tt), e 14 (lit< tt), e 15 (lit< tt))
+regs-same r s e = rw (e 2 (lit< tt), e 3 (lit< tt), e 4 (lit< tt), e 5 (lit< tt), e 6 (lit< tt), e 7 (lit< tt), e 8 (lit< tt), e 9 (lit< tt), e 10 (lit< tt), e 11 (lit< tt), e 12 (lit< tt), e 13 (lit< tt), e 14 (lit< tt), e 15 (lit< tt), e 16 (lit< tt), e 17 (lit< tt), e 18 (lit< tt), e 19 (lit< tt), e 32 (lit< tt), e 33 (lit< tt), e 34 (lit< tt))
+
+not-leb : (i b : ℕ) → b < i → leb i b ≡ false
+not-leb i b l = ⊎-elim (λ (t : leb i b ≡ true). absurd (omega (arith, leb-true i b t))) (λ (t : leb i b ≡ false). t) (cases (leb i b))
 
 -- ---- the laws of `putRegs`
 module _ (r : List ℕ) (g : Regs) where
+  abbrev first : List ℕ
+  first = sets r at-id (bytesOf g)
+
   pub length-put : length (putRegs r g) ≡ length r
   unfolding putRegs
-  length-put = length-sets r 2 (bytesOf g)
+  length-put = length-sets first at-fetched (laterOf g) ∙ length-sets r at-id (bytesOf g)
 
-  pub put-mark : (i : ℕ) → i < 2 → getD (putRegs r g) i 0 ≡ getD r i 0
+  -- what holds no register stays
+  pub put-rest : (i : ℕ) → held i ≡ false → getD (putRegs r g) i 0 ≡ getD r i 0
   unfolding putRegs
-  put-mark i h = below i r 2 (bytesOf g) h
+  put-rest i h =
+      outside at-fetched at-nak-high first (laterOf g) (or-right (leb at-id i && leb i at-received) (leb at-fetched i && leb i at-nak-high) h) refl
+      ∙ outside at-id at-received r (bytesOf g) (or-left (leb at-id i && leb i at-received) (leb at-fetched i && leb i at-nak-high) h) refl
+    where
+      outside : (a b : ℕ) (l vs : List ℕ) → (leb a i && leb i b) ≡ false → a + length vs ≡ suc b → getD (sets l a vs) i 0 ≡ getD l i 0
+      outside a b l vs e n =
+          ⊎-elim (λ (t : leb a i ≡ true). above i l a vs (let u : leb i b ≡ false = rw t at e in omega (arith, n, leb-false i b u)))
+          (λ (t : leb a i ≡ false). below i l a vs (leb-false a i t)) (cases (leb a i))
 
-  pub put-rest : (i : ℕ) → 16 ≤ i → getD (putRegs r g) i 0 ≡ getD r i 0
-  unfolding putRegs
-  put-rest i h = above i r 2 (bytesOf g) h
+  pub put-ram : (i : ℕ) → registerBytes ≤ i → getD (putRegs r g) i 0 ≡ getD r i 0
+  put-ram i h =
+      put-rest i (rw (not-leb i at-received (omega arith), not-leb i at-nak-high (omega arith), and-false (leb at-id i), and-false (leb at-fetched i)))
 
-  pub put-at : 16 ≤ length r → (k : ℕ) → k < 14 → getD (putRegs r g) (2 + k) 0 ≡ getD (bytesOf g) k 0
-  unfolding putRegs
-  put-at h k b = within r 2 (bytesOf g) k h b
+  module _ (h : registerBytes ≤ length r) where
+    pub put-at : (k : ℕ) → k < 18 → getD (putRegs r g) (at-id + k) 0 ≡ getD (bytesOf g) k 0
+    unfolding putRegs
+    put-at k b = below (at-id + k) first at-fetched (laterOf g) (omega arith) ∙ within r at-id (bytesOf g) k (omega arith) b
 
-  pub regs-put : 16 ≤ length r → regsOf (putRegs r g) ≡ g
-  unfolding regsOf putRegs
-  regs-put h =
-      let e : (k : ℕ) → k < 14 → getD (sets r 2 (bytesOf g)) (2 + k) 0 ≡ getD (bytesOf g) k 0 = λ k hk. within r 2 (bytesOf g) k h hk in
-      rw (e 0 (lit< tt), e 1 (lit< tt), e 2 (lit< tt), e 3 (lit< tt), e 4 (lit< tt), e 5 (lit< tt), e 6 (lit< tt), e 7 (lit< tt), e 8 (lit< tt), e 9 (lit< tt), e 10 (lit< tt), e 11 (lit< tt), e 12 (lit< tt), e 13 (lit< tt))
+    pub put-later : (k : ℕ) → k < 3 → getD (putRegs r g) (at-fetched + k) 0 ≡ getD (laterOf g) k 0
+    unfolding putRegs
+    put-later k b = within first at-fetched (laterOf g) k (omega (arith, length-sets r at-id (bytesOf g))) b
 
--- the registers stand at their bytes
-pub regs-at : (r : List ℕ) (k : ℕ) → k < 14 → getD (bytesOf (regsOf r)) k 0 ≡ getD r (2 + k) 0
+    pub regs-put : regsOf (putRegs r g) ≡ g
+    unfolding regsOf
+    regs-put = rw (put-at 0 (lit< tt), put-at 1 (lit< tt), put-at 2 (lit< tt), put-at 3 (lit< tt), put-at 4 (lit< tt), put-at 5 (lit< tt), put-at 6 (lit< tt), put-at 7 (lit< tt), put-at 8 (lit< tt), put-at 9 (lit< tt), put-at 10 (lit< tt), put-at 11 (lit< tt), put-at 12 (lit< tt), put-at 13 (lit< tt), put-at 14 (lit< tt), put-at 15 (lit< tt), put-at 16 (lit< tt), put-at 17 (lit< tt), put-later 0 (lit< tt), put-later 1 (lit< tt), put-later 2 (lit< tt))
+
+-- ---- the registers stand at their bytes
+pub regs-at : (r : List ℕ) (k : ℕ) → k < 18 → getD (bytesOf (regsOf r)) k 0 ≡ getD r (at-id + k) 0
 unfolding regsOf
-regs-at r k h = at k h
-  where
-    at : (k : ℕ) → k < 14 → getD (bytesOf (regsOf r)) k 0 ≡ getD r (2 + k) 0
-    at zero h = refl
-    at (suc zero) h = refl
-    at (suc (suc zero)) h = refl
-    at (suc (suc (suc zero))) h = refl
-    at (suc (suc (suc (suc zero)))) h = refl
-    at (suc (suc (suc (suc (suc zero))))) h = refl
-    at (suc (suc (suc (suc (suc (suc zero)))))) h = refl
-    at (suc (suc (suc (suc (suc (suc (suc zero))))))) h = refl
-    at (suc (suc (suc (suc (suc (suc (suc (suc zero)))))))) h = refl
-    at (suc (suc (suc (suc (suc (suc (suc (suc (suc zero))))))))) h = refl
-    at (suc (suc (suc (suc (suc (suc (suc (suc (suc (suc zero)))))))))) h = refl
-    at (suc (suc (suc (suc (suc (suc (suc (suc (suc (suc (suc zero))))))))))) h = refl
-    at (suc (suc (suc (suc (suc (suc (suc (suc (suc (suc (suc (suc zero)))))))))))) h = refl
-    at (suc (suc (suc (suc (suc (suc (suc (suc (suc (suc (suc (suc (suc zero))))))))))))) h = refl
-    at (suc (suc (suc (suc (suc (suc (suc (suc (suc (suc (suc (suc (suc (suc k)))))))))))))) h = absurd (omega arith)
+regs-at r k h = by-table 0 (λ k. getD (bytesOf (regsOf r)) k 0) (λ k. getD r (at-id + k) 0) 18 refl k h
+
+pub later-at : (r : List ℕ) (k : ℕ) → k < 3 → getD (laterOf (regsOf r)) k 0 ≡ getD r (at-fetched + k) 0
+unfolding regsOf
+later-at r k h = by-table 0 (λ k. getD (laterOf (regsOf r)) k 0) (λ k. getD r (at-fetched + k) 0) 3 refl k h
 
 -- ---- well-formedness, by parts
 module _ (r : List ℕ) where
   well-mark : wellFormed r ≡ true → marked r ≡ true
   unfolding wellFormed
-  well-mark w = and-left (marked r) (fit (regsOf r)) (and-left (marked r && fit (regsOf r)) (zeros (spare r)) w)
+  well-mark w = and-left (marked r) (fit (regsOf r)) (and-left (marked r && fit (regsOf r)) (spare r) w)
 
   pub well-fit : wellFormed r ≡ true → fit (regsOf r) ≡ true
   unfolding wellFormed
-  well-fit w = and-right (marked r) (fit (regsOf r)) (and-left (marked r && fit (regsOf r)) (zeros (spare r)) w)
+  well-fit w = and-right (marked r) (fit (regsOf r)) (and-left (marked r && fit (regsOf r)) (spare r) w)
 
-  well-zeros : wellFormed r ≡ true → zeros (spare r) ≡ true
+  well-spare : wellFormed r ≡ true → spare r ≡ true
   unfolding wellFormed
-  well-zeros w = and-right (marked r && fit (regsOf r)) (zeros (spare r)) w
+  well-spare w = and-right (marked r && fit (regsOf r)) (spare r) w
 
-  well-of : marked r ≡ true → fit (regsOf r) ≡ true → zeros (spare r) ≡ true → wellFormed r ≡ true
+  well-of : marked r ≡ true → fit (regsOf r) ≡ true → spare r ≡ true → wellFormed r ≡ true
   unfolding wellFormed
   well-of m f z = rw (m, f, z)
 
@@ -109,24 +115,38 @@ module _ (r s : List ℕ) (l : length s ≡ length r) where
   unfolding marked
   mark-same e = rw (e 0 (lit< tt), e 1 (lit< tt))
 
-  spare-same : ((i : ℕ) → 16 ≤ i → i < registerBytes → getD s i 0 ≡ getD r i 0) → registerBytes ≤ length r → spare s ≡ spare r
-  spare-same e h =
-      let m : (x : List ℕ) → length x ≡ length r → length (spare x) ≡ registerBytes - 16 = λ x q. length-take-le (registerBytes - 16) (drop 16 x) (simp length-drop (omega arith)) in
-      ext-getD 0 (spare s) (spare r) (m s l ∙ sym (m r refl))
-      (λ i hi. let b : i < registerBytes - 16 = omega (arith, m s l) in
-      getD-take (registerBytes - 16) (drop 16 s) i 0 b ∙ getD-drop 16 s i 0 ∙ e (16 + i) (omega arith) (omega arith)
-      ∙ sym (getD-take (registerBytes - 16) (drop 16 r) i 0 b ∙ getD-drop 16 r i 0))
+  stretch-same : (a b : ℕ) → a ≤ b → b ≤ length r → ((i : ℕ) → a ≤ i → i < b → getD s i 0 ≡ getD r i 0) → stretch a b s ≡ stretch a b r
+  stretch-same a b o h e =
+      let m : (x : List ℕ) → length x ≡ length r → length (stretch a b x) ≡ b - a = λ x q. length-take-le (b - a) (drop a x) (simp length-drop (omega arith)) in
+      ext-getD 0 (stretch a b s) (stretch a b r) (m s l ∙ sym (m r refl))
+      (λ i hi. let c : i < b - a = omega (arith, m s l) in
+      getD-take (b - a) (drop a s) i 0 c ∙ getD-drop a s i 0 ∙ e (a + i) (omega arith) (omega arith)
+      ∙ sym (getD-take (b - a) (drop a r) i 0 c ∙ getD-drop a r i 0))
+
+  spare-same : registerBytes ≤ length r → ((i : ℕ) → held i ≡ false → i < registerBytes → getD s i 0 ≡ getD r i 0) → spare s ≡ spare r
+  unfolding spare
+  spare-same h e =
+      rw (stretch-same (1 + at-received) at-fetched (lit≤ tt) (omega arith) (λ i a b. e i (between i a b) (omega arith)),
+        stretch-same (1 + at-nak-high) registerBytes (lit≤ tt) h (λ i a b. e i (behind i a) b))
+    where
+      between : (i : ℕ) → 1 + at-received ≤ i → i < at-fetched → held i ≡ false
+      between i a b = rw (not-leb i at-received a, not-leb at-fetched i b, and-false (leb at-id i))
+
+      behind : (i : ℕ) → 1 + at-nak-high ≤ i → held i ≡ false
+      behind i a = rw (not-leb i at-received (omega arith), not-leb i at-nak-high a, and-false (leb at-id i), and-false (leb at-fetched i))
 
   -- a row that differs in its RAM alone
   pub well-same : registerBytes ≤ length r → ((i : ℕ) → i < registerBytes → getD s i 0 ≡ getD r i 0) → wellFormed s ≡ wellFormed r
   unfolding wellFormed
-  well-same h e =
-      rw (mark-same (λ i b. e i (omega arith)), regs-same r s (λ i b. e i (omega arith)), spare-same (λ i a b. e i b) h)
+  well-same h e = rw (mark-same (λ i b. e i (omega arith)), regs-same r s e, spare-same h (λ i _ b. e i b))
 
 -- registers that fit keep the row well formed
 pub well-put : (r : List ℕ) (g : Regs) → registerBytes ≤ length r → wellFormed r ≡ true → fit g ≡ true → wellFormed (putRegs r g) ≡ true
 well-put r g h w f =
     well-of (putRegs r g)
-    (mark-same r (putRegs r g) (length-put r g) (put-mark r g) ∙ well-mark r w)
-    (rw (regs-put r g (omega arith)) f)
-    (ap zeros (spare-same r (putRegs r g) (length-put r g) (λ i a b. put-rest r g i a) h) ∙ well-zeros r w)
+    (mark-same r (putRegs r g) (length-put r g) (λ i b. put-rest r g i (before i b)) ∙ well-mark r w)
+    (rw (regs-put r g h) f)
+    (spare-same r (putRegs r g) (length-put r g) h (λ i n _. put-rest r g i n) ∙ well-spare r w)
+  where
+    before : (i : ℕ) → i < 2 → held i ≡ false
+    before i b = rw (not-leb at-id i b, not-leb at-fetched i (omega arith))

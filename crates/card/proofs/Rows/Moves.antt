@@ -4,23 +4,23 @@ use mathlib.Core.Path.{_≡_, refl, _∙_}
 use mathlib.Core.Bool.{Bool, true, false, _&&_, false≢true}
 use mathlib.Core.Logic.{⊎-elim, inl, inr}
 use mathlib.Core.List.{List}
-use Prim.Native.Nat.{ℕ, _+_, _-_, _≤_, _<_}
+use Prim.Native.Nat.{ℕ, suc, _+_, _-_, _≤_, _<_}
 use native.Mathlib.Omega.{arith}
-use borrow.Author.Tests.{eqb-false, ltb-true, ltb-false, lt-ltb, le-leb, leb-false}
+use borrow.Author.Tests.{eqb-false, ltb-true, ltb-false, lt-ltb, le-leb, leb-true, leb-false}
 use lib.Dec.{eqb, leb, ltb}
 use lib.ListN.{length, getD, set, length-set}
 use lib.Seq.{getD-set-other}
 use Rattle.registers.specs.declared.regs.Regs.{Regs}
 use Rattle.card.specs.declared.packets.Packet.{Packet}
 use Rattle.bits.specs.Words.{among}
-use Rattle.registers.specs.Layout.{at-id, at-long, readChanges, writeChanges}
-use Rattle.bits.proofs.Words.Bools.{cases, and-true, and-false, or-left, or-right, pick-of}
+use Rattle.registers.specs.Layout.{at-id, at-received, at-fetched, at-nak-high, held, readChanges, writeChanges}
+use Rattle.bits.proofs.Words.Bools.{cases, and-left, and-right, and-true, and-false, or-left, or-right, pick-of}
 use Rattle.registers.proofs.Values.Keeps.{Keeps, keeps-read, keeps-write}
-use Rattle.card.specs.Row.{rowBytes, regsOf, putRegs}
+use Rattle.card.specs.Row.{registerBytes, rowBytes, regsOf, putRegs}
 use Rattle.card.specs.Access.{pointed, rowAfterRead, ramWritten, rowAfterWrite}
 use Rattle.card.specs.Packets.{dataAt, headBytes, pageBytes, pageAt, stored, stamped}
-use Rattle.card.specs.Moves.{OnlyAt, inRegisters, inPacket, writeMoves}
-use Rattle.card.proofs.Rows.Bytes.{regs-same, length-put, put-mark, put-rest, put-at, regs-at}
+use Rattle.card.specs.Moves.{OnlyAt, inPacket, writeMoves}
+use Rattle.card.proofs.Rows.Bytes.{regs-same, length-put, put-rest, put-at, put-later, regs-at, later-at}
 use Rattle.card.proofs.Pages.Stored.{length-stored, stored-outside, stored-gap}
 use Rattle.card.proofs.Rows.Accesses.{length-ram}
 
@@ -34,20 +34,25 @@ pub only-wider : {moves more : ℕ → Bool} (r s : List ℕ) → ((i : ℕ) →
 only-wider r s w a = record { size = a .size; same = λ i e. a .same i (w i e) }
 
 -- ---- other registers
-pub only-put : (l : List ℕ) (r : List ℕ) (g : Regs) → 16 ≤ length r → Keeps l (regsOf r) g → OnlyAt (among l) r (putRegs r g)
+pub only-put : (l : List ℕ) (r : List ℕ) (g : Regs) → registerBytes ≤ length r → Keeps l (regsOf r) g → OnlyAt (among l) r (putRegs r g)
 only-put l r g h q = record {
   size = length-put r g;
-  same = λ i e. ⊎-elim (λ (t : ltb i at-id ≡ true). put-mark r g i (ltb-true i at-id t))
-      (λ (t : ltb i at-id ≡ false). ⊎-elim (λ (u : ltb i 16 ≡ true). inside i e (ltb-false i at-id t) (ltb-true i 16 u))
-      (λ (u : ltb i 16 ≡ false). put-rest r g i (ltb-false i 16 u)) (cases (ltb i 16)))
-      (cases (ltb i at-id));
+  same = λ i e. ⊎-elim (λ (t : (leb at-id i && leb i at-received) ≡ true). inside at-id at-received 18 i t refl
+      (λ k b k-is. put-at r g h k b ∙ q .kept k (rw k-is at e) ∙ regs-at r k b))
+      (λ (t : (leb at-id i && leb i at-received) ≡ false). ⊎-elim (λ (u : (leb at-fetched i && leb i at-nak-high) ≡ true). inside at-fetched at-nak-high 3 i u refl
+      (λ k b k-is. put-later r g h k b ∙ q .later k (rw k-is at e) ∙ later-at r k b))
+      (λ (u : (leb at-fetched i && leb i at-nak-high) ≡ false). put-rest r g i (rw (t, u))) (cases (leb at-fetched i && leb i at-nak-high)))
+      (cases (leb at-id i && leb i at-received));
 }
   where
-    inside : (i : ℕ) → among l i ≡ false → at-id ≤ i → i < 16 → getD (putRegs r g) i 0 ≡ getD r i 0
-    inside i e a b =
-        let k : i ≡ at-id + (i - at-id) = omega arith in
-        let x : i - at-id < 14 = omega arith in
-        rw k (put-at r g h (i - at-id) x ∙ q .kept (i - at-id) (rw k at e) ∙ regs-at r (i - at-id) x)
+    -- a byte from a to b, by how far it is from a
+    inside : (a b n i : ℕ) → (leb a i && leb i b) ≡ true → a + n ≡ suc b
+        → ((k : ℕ) → k < n → i ≡ a + k → getD (putRegs r g) (a + k) 0 ≡ getD r (a + k) 0) → getD (putRegs r g) i 0 ≡ getD r i 0
+    inside a b n i t m f =
+        let low = leb-true a i (and-left (leb a i) (leb i b) t) in
+        let high = leb-true i b (and-right (leb a i) (leb i b) t) in
+        let e : i ≡ a + (i - a) = omega (arith, low) in
+        rw e (f (i - a) (omega (arith, low, high, m)) e)
 
 -- ---- the RAM
 only-set : (r : List ℕ) (a v : ℕ) → OnlyAt (λ i. eqb i a) r (set r a v)
@@ -108,9 +113,5 @@ module _ (r : List ℕ) (l : length r ≡ rowBytes) where
       (only-put (writeChanges (regsOf r) k) m _ (omega (arith, length-ram r k (pointed r) v)) (rw e (keeps-write (regsOf r) k v))))
 
   -- other registers, whatever they are
-  pub only-registers : (g : Regs) → OnlyAt inRegisters r (putRegs r g)
-  only-registers g = record {
-    size = length-put r g;
-    same = λ i e. ⊎-elim (λ (t : leb at-id i ≡ true). put-rest r g i (let u : leb i at-long ≡ false = rw t at e in omega (arith, leb-false i at-long u)))
-        (λ (t : leb at-id i ≡ false). put-mark r g i (leb-false at-id i t)) (cases (leb at-id i));
-  }
+  pub only-registers : (g : Regs) → OnlyAt held r (putRegs r g)
+  only-registers g = record { size = length-put r g; same = put-rest r g }

@@ -15,7 +15,7 @@ use Rattle.card.specs.declared.packets.Packet.{Packet}
 use Rattle.card.specs.Row.{regsOf, putRegs}
 use Rattle.card.specs.Packets.{dataAt, headBytes, pageBytes, pageAt, pageShape, packetAt, stored, stamped}
 use Rattle.bits.proofs.Words.Bools.{cases}
-use Rattle.card.proofs.Rows.Bytes.{put-rest}
+use Rattle.card.proofs.Rows.Bytes.{put-ram}
 use Rattle.card.proofs.Pages.Stored.{stored-outside, stored-gap, stored-data, stored-head}
 use Rattle.card.proofs.Pages.Packets.{Ram}
 
@@ -56,7 +56,7 @@ module _ (r : List ℕ) (b : Ram r) where
 
   -- ---- what leaves the RAM so: other registers, a byte anywhere, the ID in a page, a packet of bytes in a page
   pub ram-put : (g : Regs) → Ram (putRegs r g)
-  ram-put g i h = rw (put-rest r g i (omega arith)) (b i h)
+  ram-put g i h = rw (put-ram r g i h) (b i h)
 
   pub ram-set : (a v : ℕ) → v < 256 → Ram (set r a v)
   ram-set a v d i h =

@@ -88,7 +88,7 @@ module _ (net : List ℕ) (p : phase net ≡ TAKEN) where
   may : (x : Bool) (i : ℕ) → rowMoves net x h i ≡ false → (among registers-moved i || eqb i (pageAt (sentPage net))) ≡ false
   may x i e = rw (p, eq-eqb h h refl) at e
 
-  only-registers : (x : Bool) (r : List ℕ) (g : Regs) → 16 ≤ length r → Keeps registers-moved (regsOf r) g → OnlyAt (rowMoves net x h) r (putRegs r g)
+  only-registers : (x : Bool) (r : List ℕ) (g : Regs) → registerBytes ≤ length r → Keeps registers-moved (regsOf r) g → OnlyAt (rowMoves net x h) r (putRegs r g)
   only-registers x r g l k = only-wider r _ (λ i e. or-left (among registers-moved i) _ (may x i e)) (only-put registers-moved r g l k)
 
   own-keeps : (l : List Change) (o : Own) → Allowed net l (Does o) → (g : Regs) → Keeps registers-moved g (does o g)

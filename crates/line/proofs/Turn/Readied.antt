@@ -13,7 +13,7 @@ use Rattle.card.specs.Packets.{malformed, pageShape, destination, packetAt, sta
 use Rattle.registers.proofs.Values.SameCard.{same-cancelled}
 use Rattle.registers.proofs.Values.Keeps.{keeps-cancelled}
 use Rattle.registers.proofs.Values.Ends.{transmit-page-small, page-of}
-use Rattle.card.proofs.Rows.Bytes.{length-put, put-rest}
+use Rattle.card.proofs.Rows.Bytes.{length-put, put-ram}
 use Rattle.card.proofs.Pages.Stored.{length-stamped}
 use Rattle.card.proofs.Pages.Same.{shape-same, did-same}
 use Rattle.card.proofs.Pages.Sent.{SentFrom, sent-from}
@@ -53,8 +53,8 @@ module _ (net : List ℕ) (s : shape net ≡ true) (t : transmitting (cancelled 
   size : length (rowAt m h) ≡ length row
   size = rw there (length-put row _)
 
-  ram : (i : ℕ) → 16 ≤ i → getD (rowAt m h) i 0 ≡ getD row i 0
-  ram = rw there (put-rest row (cancelled (regsOf row)))
+  ram : (i : ℕ) → registerBytes ≤ i → getD (rowAt m h) i 0 ≡ getD row i 0
+  ram = rw there (put-ram row (cancelled (regsOf row)))
 
   long : regsOf (rowAt m h) .long ≡ regsOf row .long
   long = rw here (keeps-cancelled (at-status ∷ at-transmit ∷ at-receive ∷ []) (regsOf row) refl refl refl .kept 13 refl)

@@ -19,7 +19,7 @@ use Rattle.registers.proofs.Values.SameCard.{reset-off}
 use Rattle.registers.proofs.Values.Keeps.{keeps-burst}
 use Rattle.card.specs.Row.{rowBytes, regsOf}
 use Rattle.card.specs.Access.{rowAfterRead, rowAfterWrite, rowAfterReset}
-use Rattle.card.specs.Moves.{OnlyAt, inRegisters, writeMoves}
+use Rattle.card.specs.Moves.{OnlyAt, writeMoves}
 use Rattle.card.proofs.Rows.Bytes.{length-put, regs-put}
 use Rattle.card.proofs.Rows.WellFormed.{length-read, length-write}
 use Rattle.card.proofs.Rows.Moves.{only-stays, only-then, only-wider, only-put, only-read, only-write, only-registers}
@@ -89,11 +89,11 @@ module _ (net : List ℕ) (s : shape net ≡ true) (k : ℕ) (l : k < rows net) 
       (λ f t i m. rw (f, sym (ap onLine (regs-write row long g v)) ∙ t) at (or-right (writeMoves row g i) _ m)))
       (λ _. only-stays _ row)
 
-  reset-row : OnlyAt inRegisters row (rowAt (netAfterReset net k) k)
+  reset-row : OnlyAt held row (rowAt (netAfterReset net k) k)
   unfolding netAfterReset
   reset-row =
-      pick-of (λ (x : List ℕ). OnlyAt inRegisters row (rowAt x k)) (eqb (placeNumber net k) 0)
-      (λ _. only-settled (rowAfterReset row) (length-put row hardwareReset ∙ long) inRegisters (only-registers row long hardwareReset)
+      pick-of (λ (x : List ℕ). OnlyAt held row (rowAt x k)) (eqb (placeNumber net k) 0)
+      (λ _. only-settled (rowAfterReset row) (length-put row hardwareReset ∙ long) held (only-registers row long hardwareReset)
       (λ f t i m. absurd (false≢true (sym (ap onLine (regs-put row hardwareReset (omega (arith, long))) ∙ reset-off) ∙ t))))
       (λ _. only-stays _ row)
 
@@ -143,7 +143,7 @@ module _ (net : List ℕ) (k : ℕ) where
   write-only g v =
       only-of _ (λ n. write-refused net k g v (λ z. n (row-there net k (write-placed net k g v z)))) (λ s l. (write-beside net s k l g v, write-row net s k l g v))
 
-  pub reset-only : OnlyRow net (netAfterReset net k) k inRegisters
+  pub reset-only : OnlyRow net (netAfterReset net k) k held
   reset-only = only-of _ (λ n. reset-refused net k (λ z. n (row-there net k z))) (λ s l. (reset-beside net s k l, reset-row net s k l))
 
   pub timer-only : OnlyRow net (netAfterTimer net k) k (among (at-diagnostic ∷ []))
