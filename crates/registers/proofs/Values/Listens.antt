@@ -75,4 +75,4 @@ module _ (g h : Regs) (b : Wakes g h) where
 -- a card that takes a broadcast has its receiver on
 pub takes-receives : (g : Regs) → takesBroadcasts g ≡ true → receiving g ≡ true
 unfolding takesBroadcasts
-takes-receives g e = and-right (awake g) (receiving g) (and-left (awake g && receiving g) (has BROADCASTS (g .receive)) e)
+takes-receives g e = and-right (awake g) (receiving g) (and-left (awake g && receiving g) (has BROADCASTS (g .receive .oldest)) e)
