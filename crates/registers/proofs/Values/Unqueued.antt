@@ -21,7 +21,7 @@ use Rattle.registers.specs.Fields.{with-configuration}
 use Rattle.registers.specs.Fit.{named, fit}
 use Rattle.registers.specs.Commands.{commandOf}
 use Rattle.registers.specs.Registers.{sub, stepped, changesChaining, configured, commanded, seventhWritten, afterWrite}
-use Rattle.registers.specs.Layout.{at-id, at-second-transmit, at-second-receive, at-sent, at-received, at-fetched, bytesOf, writeBytes, writeChanges}
+use Rattle.registers.specs.Layout.{at-second-transmit, at-second-receive, at-sent, at-received, at-fetched, writeBytes, writeChanges}
 use Rattle.registers.specs.Events.{received, transmitCancelled, cancelled, sent}
 use Rattle.bits.proofs.Words.Bools.{cases, and-left, and-right, or-left, or-right, pick-of, pick-both}
 use Rattle.queues.proofs.Alone.{Alone, alone-fit, alone-enabled, alone-disabled, alone-cleared, alone-ended, alone-cancelled}
