@@ -12,7 +12,7 @@ use Rattle.queues.specs.declared.queues.Side.{Side}
 use Rattle.queues.specs.Queues.{freeFlag, waiting, secondFlag, two, uncleared, KEPT, stored, shows, completed, cleared, lowered, enabled, disabled, movedUp, gone, ended, secondCancelled, cancelled}
 use Rattle.bits.specs.Words.{pick, clear, has, raise, raiseIf, lower, setTo}
 use Rattle.bits.specs.Flags.{TMA, TA, RI, CANCEL, LOW2}
-use Rattle.bits.proofs.Words.Bools.{and-left, and-right, pick-of}
+use Rattle.bits.proofs.Words.Bools.{and-left, and-right, pick-of, pick-both}
 use Rattle.bits.proofs.Words.Masks.{lower-other, lower-clears, raise-other, raise-sets, set-other}
 use Rattle.queues.proofs.Fits.{Agrees, no-second}
 use Rattle.queues.proofs.Going.{behind-waits, alone, shows-free}
@@ -134,6 +134,28 @@ module _ (w : Way) (c b : Bool) (s : Side) where
       split false e i =
           let t : two w (s .queue) ≡ false = sym i ∙ e in
           rw e (record { free = raised-free w (completed w c b s .status) ∙ sym t; oldest = none-up w s a t; told = tells .told })
+
+-- an end goes by the queue, and by TA, or RI, alone
+pub record Alike (w : Way) (s t : Side) : Type 0 where
+  pub queue : t .queue ≡ s .queue
+  pub waits : waiting w t ≡ waiting w s
+
+module _ (w : Way) (s t : Side) (a : Alike w s t) where
+  gone-alike : Alike w (gone w s) (gone w t)
+  gone-alike =
+      rw (a .queue)
+      (pick-both (Alike w) (two w (s .queue)) (record { queue = refl; waits = a .waits })
+      (record { queue = refl; waits = raised-free w (t .status) ∙ sym (raised-free w (s .status)) }))
+
+  completed-alike : (c b : Bool) → Alike w (completed w c b s) (completed w c b t)
+  completed-alike c b =
+      rw (a .queue)
+      (pick-both (Alike w) (c && uncleared (s .queue)) (record { queue = refl; waits = a .waits })
+      (record { queue = refl; waits = shows-free w b (t .status) ∙ a .waits ∙ sym (shows-free w b (s .status)) }))
+
+pub ended-alike : (w : Way) (s t : Side) → Alike w s t → (c b : Bool) → Alike w (ended w c b s) (ended w c b t)
+unfolding ended
+ended-alike w s t a c b = gone-alike w (completed w c b s) (completed w c b t) (completed-alike w s t a c b)
 
 -- TMA: that of the end, but where another is shown
 gone-tma : (s : Side) → clear TMA (gone Transmit s .status) ≡ clear TMA (s .status)

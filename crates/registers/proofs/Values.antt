@@ -5,6 +5,7 @@ pub mod FitEvents
 pub mod FitCalls
 pub mod SameCard
 pub mod Keeps
+pub mod Unqueued
 pub mod Ends
 pub mod Listens
 pub mod Loads

@@ -126,8 +126,10 @@ module _ (r s : List ℕ) (l : length s ≡ length r) where
   spare-same : registerBytes ≤ length r → ((i : ℕ) → held i ≡ false → i < registerBytes → getD s i 0 ≡ getD r i 0) → spare s ≡ spare r
   unfolding spare
   spare-same h e =
-      rw (stretch-same (1 + at-received) at-fetched (lit≤ tt) (omega arith) (λ i a b. e i (between i a b) (omega arith)),
-        stretch-same (1 + at-nak-high) registerBytes (lit≤ tt) h (λ i a b. e i (behind i a) b))
+      rw (
+        stretch-same (1 + at-received) at-fetched (lit≤ tt) (omega arith) (λ i a b. e i (between i a b) (omega arith)),
+        stretch-same (1 + at-nak-high) registerBytes (lit≤ tt) h (λ i a b. e i (behind i a) b),
+      )
     where
       between : (i : ℕ) → 1 + at-received ≤ i → i < at-fetched → held i ≡ false
       between i a b = rw (not-leb i at-received a, not-leb at-fetched i b, and-false (leb at-id i))

@@ -1,15 +1,18 @@
 -- A card that a message or a recovery reaches is awake as it was, and stores a packet where it did; its RI stays.
 -- Assumes nothing.
 use mathlib.Core.Path.{_≡_, refl, _∙_}
-use mathlib.Core.Bool.{Bool, true, _&&_}
+use mathlib.Core.Bool.{Bool, true, false, _&&_}
 use Prim.Native.Nat.{ℕ}
+use Rattle.queues.specs.declared.queues.Way.the-variants.{Receive}
 use Rattle.registers.specs.declared.regs.Regs.{Regs}
 use Rattle.bits.specs.Words.{clear, has}
 use Rattle.bits.specs.Flags.{RI, RECON, BROADCASTS}
 use Rattle.registers.specs.Fields.{with-status, with-diagnostic, with-nid}
+use Rattle.registers.specs.Sides.{chaining, sideOf}
 use Rattle.registers.specs.Fit.{awake}
-use Rattle.registers.specs.Events.{recovered, heard, answered, risenNid, receiving, takesBroadcasts, receivePage}
+use Rattle.registers.specs.Events.{recovered, heard, answered, risenNid, received, receiving, takesBroadcasts, receivePage}
 use Rattle.bits.proofs.Words.Bools.{and-left, and-right, pick-of}
+use Rattle.queues.proofs.Leaves.{ended-alike}
 use Rattle.bits.proofs.Words.Masks.{raise-other}
 use Rattle.registers.proofs.Values.SameCard.{awake-same}
 
@@ -68,6 +71,13 @@ module _ (g h : Regs) (b : Wakes g h) where
   unfolding takesBroadcasts
   takes-same e = rw (awake-same g h (b .id) (b .configuration), e, b .receive)
 
+  -- and what an end of its receive makes of it
+  pub received-same : receiving h ≡ receiving g → (received h .receive ≡ received g .receive) × (receiving (received h) ≡ receiving (received g))
+  unfolding received receiving
+  received-same e =
+      let a = ended-alike Receive (sideOf Receive g) (sideOf Receive h) (record { queue = b .receive; waits = e }) (chaining g) false in
+      rw (b .configuration) (a .queue, a .waits)
+
   pub receive-page-same : receivePage h ≡ receivePage g
   unfolding receivePage
   receive-page-same = rw (b .receive)
@@ -75,4 +85,4 @@ module _ (g h : Regs) (b : Wakes g h) where
 -- a card that takes a broadcast has its receiver on
 pub takes-receives : (g : Regs) → takesBroadcasts g ≡ true → receiving g ≡ true
 unfolding takesBroadcasts
-takes-receives g e = and-right (awake g) (receiving g) (and-left (awake g && receiving g) (has BROADCASTS (g .receive)) e)
+takes-receives g e = and-right (awake g) (receiving g) (and-left (awake g && receiving g) (has BROADCASTS (g .receive .oldest)) e)

@@ -7,14 +7,14 @@ use borrow.Author.Tests.{eqb-true}
 use lib.Dec.{eqb, lit<}
 use Rattle.registers.specs.declared.regs.Regs.{Regs}
 use Rattle.registers.specs.declared.commands.Command.{Command}
-use Rattle.registers.specs.declared.commands.Command.the-variants.{Illegal, DisableTransmitter, DisableReceiver, EnableTransmit, EnableReceive, LongPackets, ClearFlags}
+use Rattle.registers.specs.declared.commands.Command.the-variants.{Illegal, DisableTransmitter, DisableReceiver, EnableTransmit, EnableReceive, LongPackets, ClearFlags, ClearTransmit, ClearReceive}
 use Rattle.bits.specs.Words.{pick, clear, has}
-use Rattle.bits.specs.Flags.{AUTO-INC, RESET, CANCEL}
+use Rattle.bits.specs.Flags.{AUTO-INC, RESET}
 use Rattle.registers.specs.Fields.{with-configuration}
 use Rattle.registers.specs.Fit.{awake, onLine}
 use Rattle.registers.specs.Commands.{commandOf}
-use Rattle.registers.specs.Registers.{sub, stepped, afterRead, hardwareReset, configured, commanded, writesId, seventhWritten, afterWrite}
-use Rattle.registers.specs.Events.{burst, recovered, heard, answered, risenNid, received, transmitCancelled, receiveCancelled, cancelled, sent}
+use Rattle.registers.specs.Registers.{sub, stepped, afterRead, hardwareReset, changesChaining, configured, commanded, writesId, seventhWritten, afterWrite}
+use Rattle.registers.specs.Events.{burst, recovered, heard, answered, risenNid, received, cancelled, sent}
 use Rattle.bits.proofs.Words.Bools.{pick-of, cases}
 use mathlib.Core.Logic.{⊎-elim}
 
@@ -70,6 +70,8 @@ module _ (g : Regs) where
   kept-commanded (EnableReceive p b) = search
   kept-commanded (LongPackets l) = search
   kept-commanded (ClearFlags p r) = search
+  kept-commanded ClearTransmit = search
+  kept-commanded ClearReceive = search
 
   pub same-read : (k : ℕ) → SameCard g (afterRead g k)
   unfolding afterRead
@@ -95,7 +97,8 @@ module _ (g : Regs) where
 
   pub write-six : (v : ℕ) → Configured v (afterWrite g 6 v)
   unfolding afterWrite configured
-  write-six v = pick-of (λ (h : Regs). Configured v (with-configuration v h)) (clear RESET v) (λ _. search) (λ _. search)
+  write-six v = pick-of (λ (h : Regs). Configured v (with-configuration v h)) (clear RESET v)
+      (λ _. pick-of (λ (h : Regs). Configured v (with-configuration v h)) (changesChaining g v) (λ _. search) (λ _. search)) (λ _. search)
 
   -- register 7: the node ID changes only where it is what is written
   pub record Seventh (h : Regs) : Type 0 where
@@ -134,15 +137,9 @@ module _ (g : Regs) where
   unfolding received
   same-received = search
 
-  kept-transmit : SameCard g (transmitCancelled g)
-  kept-transmit = pick-of (SameCard g) (clear CANCEL (g .transmit)) (λ _. same-card g) (λ _. search)
-
-pub same-cancelled : (g : Regs) → SameCard g (cancelled g)
-unfolding cancelled
-same-cancelled g =
-    let h = transmitCancelled g in
-    same-then g h (receiveCancelled h) (kept-transmit g)
-    (pick-of (SameCard h) (clear CANCEL (h .receive)) (λ _. same-card h) (λ _. same-received h))
+  pub same-cancelled : SameCard g (cancelled g)
+  unfolding cancelled
+  same-cancelled = search
 
 -- ---- the calls that do change one of the four
 pub record Recovered (g h : Regs) : Type 0 where

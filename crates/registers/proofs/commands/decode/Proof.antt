@@ -7,16 +7,16 @@ use borrow.Author.Needs.{needs}
 use native.Mathlib.Omega.{arith}
 use lib.ListN.{getD}
 use Rattle.registers.specs.declared.commands.Legal.{Legal}
-use Rattle.registers.specs.Commands.{commandOf, legalBytes}
-use Rattle.registers.proofs.Values.Legal.{unlisted, legal-at}
+use Rattle.registers.specs.Commands.{commandOf}
+use Rattle.registers.proofs.Values.Legal.{commandBytes, unlisted, legal-at}
 use Rattle.registers.proofs.commands.decode.Statement.{statement}
 use Rattle.registers.proofs.commands.decode.Tie as tie
 
 abbrev Inv-loop : tie.InvT-loop
-Inv-loop byte i₀ i = (i ≤ 20) × ((j : ℕ) → j < i → getD legalBytes j 0 ≡ byte → ⊥)
+Inv-loop byte i₀ i = (i ≤ 22) × ((j : ℕ) → j < i → getD commandBytes j 0 ≡ byte → ⊥)
 
 abbrev μ-loop : tie.MeasureT-loop
-μ-loop byte i₀ i = 20 - i
+μ-loop byte i₀ i = 22 - i
 
 returns : tie.Need-returns Inv-loop μ-loop
 unfolding commandOf

@@ -6,7 +6,7 @@ use Rattle.registers.proofs.regs.Regs.fit.Tie as tie
 
 returns : tie.Need-returns
 unfolding fit
-returns c = 
+returns c =
     let t = c .before .before in
     let k = t .before .before .before .before .before .before .before .before .before .before .before .before in
     simp (c .fit2 .ensures, c .before .side2 .ensures, t .fit .ensures, t .before .side .ensures, k .chaining .ensures)
