@@ -6,7 +6,7 @@ use Prim.Native.Nat.{ℕ, _+_, _≤_}
 use native.Mathlib.Omega.{arith}
 use lib.ListN.{length, getD, drop, length-drop}
 use lib.Seq.{ext-getD, getD-drop}
-use Rattle.card.specs.Row.{regsOf}
+use Rattle.card.specs.Row.{registerBytes, regsOf}
 use Rattle.card.specs.Packets.{dataAt, pageAt, pageShape, destination, dataRefusals, dataNumber, pageData}
 use Rattle.card.specs.Moves.{Holds}
 

@@ -16,7 +16,7 @@ use Rattle.bits.specs.Words.{pick, clear}
 use Rattle.registers.specs.Numbers.{DONE, VALUE}
 use Rattle.bits.proofs.Words.Bools.{and-right, pick-of}
 use Rattle.registers.proofs.Told.Smallest.{refuse-passed}
-use Rattle.card.specs.Row.{rowBytes, regsOf}
+use Rattle.card.specs.Row.{registerBytes, rowBytes, regsOf}
 use Rattle.card.specs.Packets.{shapeOf, dataBytes, dataAt, pageBytes, pageAt, malformed, pageShape, destination, dataRefusals, pageData, packetAt, dataOf, stored, stamped}
 use Rattle.card.specs.Moves.{Holds}
 use Rattle.card.proofs.Words.Laid.{length-part}

@@ -14,13 +14,14 @@ use Rattle.card.specs.declared.packets.Shape.the-variants.{Malformed, Sh
 use Rattle.card.specs.declared.packets.Packet.{Packet}
 use Rattle.bits.specs.Words.{clear}
 use Rattle.registers.specs.Events.{received, receiving, receivePage}
-use Rattle.card.specs.Row.{rowBytes, regsOf, putRegs}
+use Rattle.card.specs.Row.{registerBytes, rowBytes, regsOf, putRegs}
 use Rattle.card.specs.Packets.{dataAt, pageBytes, pageAt, stored, storable}
 use Rattle.card.specs.Moves.{Holds}
 use Rattle.registers.proofs.Values.Fits.{Fit}
-use Rattle.registers.proofs.Values.Ends.{received-ends, received-page, received-long, receive-page-small, receive-page-even}
-use Rattle.registers.proofs.Values.Listens.{Wakes, wakes-same, wakes-then, receive-page-same}
+use Rattle.registers.proofs.Values.Ends.{received-long, receive-page-small, receive-page-even}
+use Rattle.registers.proofs.Values.Listens.{Wakes, wakes-same, wakes-then, receive-page-same, received-same}
 use Rattle.card.proofs.Rows.Bytes.{length-put, put-ram, regs-put}
+use Rattle.card.proofs.Rows.WellFormed.{regs-stored}
 use Rattle.card.proofs.Pages.Stored.{length-stored}
 use Rattle.card.proofs.Pages.Waiting.{receive-room}
 use Rattle.card.proofs.Pages.Same.{holds-same}
@@ -57,23 +58,26 @@ bystander-then r s t a b = record {
 pub bystander-put : (r : List ℕ) (g : Regs) → registerBytes ≤ length r → Wakes (regsOf r) g → Bystander r (putRegs r g)
 bystander-put r g h b = record { size = length-put r g; registers = rw (regs-put r g h) b; behind = put-ram r g }
 
--- ---- a row that stored what another sends from page p: RI was 0; "RI = 1, byte 14 zero", and the receive page holds the packet
+-- ---- a row that stored what another sends from page p: RI was 0; its receive has ended, "RI = 1, byte 14 zero" where none waited behind it, and the receive page
+-- holds the packet
 module _ (sender : List ℕ) (p : ℕ) where
   pub record Storing (r s : List ℕ) : Type 0 where
     pub waited : receiving (regsOf r) ≡ true
-    pub filled : receiving (regsOf s) ≡ false
-    pub ended : regsOf s .receive ≡ 0
+    pub filled : receiving (regsOf s) ≡ receiving (received (regsOf r))
+    pub ended : regsOf s .receive ≡ received (regsOf r) .receive
     pub holds : Holds sender p s (receivePage (regsOf r))
 
   -- a bystander, before and after
   module _ (r s t : List ℕ) where
     pub stores-after : Bystander r s → receiving (regsOf s) ≡ receiving (regsOf r) → Storing s t → Storing r t
-    stores-after a e b = record {
-      waited = sym e ∙ b .waited;
-      filled = b .filled;
-      ended = b .ended;
-      holds = rw (receive-page-same (regsOf r) (regsOf s) (a .registers)) at (b .holds);
-    }
+    stores-after a e b =
+        let i = received-same (regsOf r) (regsOf s) (a .registers) e in
+        record {
+          waited = sym e ∙ b .waited;
+          filled = b .filled ∙ i .1;
+          ended = b .ended ∙ i .0;
+          holds = rw (receive-page-same (regsOf r) (regsOf s) (a .registers)) at (b .holds);
+        }
 
     pub stores-then : Storing r s → Bystander s t → receiving (regsOf t) ≡ receiving (regsOf s) → Storing r t
     stores-then a b e = record {
@@ -104,10 +108,11 @@ module _ (sender : List ℕ) (p : ℕ) (ls : length sender ≡ rowBytes) (lp : p
   stores-stored =
       let g = received (regsOf with-packet) in
       let e = regs-put with-packet g (omega (arith, l, length-stored r q k room full count)) in
+      let same : regsOf with-packet ≡ regsOf r = regs-stored r l q k room full count in
       let h = holds-stored sender p k ls lp x r q (receive-page-small (regsOf r)) room full count may in
       record {
         waited = w;
-        filled = rw e (received-ends (regsOf with-packet));
-        ended = rw e (received-page (regsOf with-packet));
+        filled = rw (e, same);
+        ended = rw (e, same);
         holds = holds-same sender p with-packet _ q (length-put with-packet g) (rw e (received-long (regsOf with-packet))) (put-ram with-packet g) h;
       }

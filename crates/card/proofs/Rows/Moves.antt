@@ -15,12 +15,13 @@ use Rattle.card.specs.declared.packets.Packet.{Packet}
 use Rattle.bits.specs.Words.{among}
 use Rattle.registers.specs.Layout.{at-id, at-received, at-fetched, at-nak-high, held, readChanges, writeChanges}
 use Rattle.bits.proofs.Words.Bools.{cases, and-left, and-right, and-true, and-false, or-left, or-right, pick-of}
-use Rattle.registers.proofs.Values.Keeps.{Keeps, keeps-read, keeps-write}
-use Rattle.card.specs.Row.{registerBytes, rowBytes, regsOf, putRegs}
+use Rattle.registers.proofs.Values.Keeps.{Keeps, keeps-read}
+use Rattle.registers.proofs.Values.Unqueued.{unqueued-fit, keeps-changes}
+use Rattle.card.specs.Row.{registerBytes, rowBytes, regsOf, putRegs, wellFormed}
 use Rattle.card.specs.Access.{pointed, rowAfterRead, ramWritten, rowAfterWrite}
 use Rattle.card.specs.Packets.{dataAt, headBytes, pageBytes, pageAt, stored, stamped}
 use Rattle.card.specs.Moves.{OnlyAt, inPacket, writeMoves}
-use Rattle.card.proofs.Rows.Bytes.{regs-same, length-put, put-rest, put-at, put-later, regs-at, later-at}
+use Rattle.card.proofs.Rows.Bytes.{regs-same, length-put, put-rest, put-at, put-later, regs-at, later-at, well-fit}
 use Rattle.card.proofs.Pages.Stored.{length-stored, stored-outside, stored-gap}
 use Rattle.card.proofs.Rows.Accesses.{length-ram}
 
@@ -101,16 +102,16 @@ module _ (r : List ℕ) (l : length r ≡ rowBytes) where
   only-read k = only-put (readChanges k) r _ (omega arith) (keeps-read (regsOf r) k)
 
   -- a write of register 4 writes the RAM byte too
-  pub only-write : (k v : ℕ) → OnlyAt (writeMoves r k) r (rowAfterWrite r k v)
+  pub only-write : wellFormed r ≡ true → (k v : ℕ) → OnlyAt (writeMoves r k) r (rowAfterWrite r k v)
   unfolding rowAfterWrite
-  only-write k v =
+  only-write w k v =
       let m = ramWritten r k (pointed r) v in
       let e : regsOf m ≡ regsOf r = pick-of (λ (x : List ℕ). regsOf x ≡ regsOf r) (eqb k 4) (λ _. regs-same r _ (λ j b. getD-set-other r (pointed r) j v 0 (λ x. omega arith))) (λ _. refl) in
       only-then r m _
       (pick-of (λ (x : List ℕ). OnlyAt (writeMoves r k) r x) (eqb k 4)
       (λ t. only-wider r _ (λ i f. rw t at (or-right (among (writeChanges (regsOf r) k) i) _ f)) (only-set r (pointed r) v)) (λ _. only-stays _ r))
       (only-wider m _ (λ i f. or-left _ (eqb k 4 && eqb i (pointed r)) f)
-      (only-put (writeChanges (regsOf r) k) m _ (omega (arith, length-ram r k (pointed r) v)) (rw e (keeps-write (regsOf r) k v))))
+      (only-put (writeChanges (regsOf r) k) m _ (omega (arith, length-ram r k (pointed r) v)) (rw e (keeps-changes (regsOf r) (λ c. unqueued-fit (regsOf r) c (well-fit r w)) k v))))
 
   -- other registers, whatever they are
   pub only-registers : (g : Regs) → OnlyAt held r (putRegs r g)

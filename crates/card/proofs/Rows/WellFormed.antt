@@ -11,7 +11,7 @@ use lib.ListN.{length, set, length-set, replicate}
 use lib.Seq.{getD-set-other}
 use Rattle.registers.specs.declared.regs.Regs.{Regs}
 use Rattle.card.specs.declared.packets.Packet.{Packet}
-use Rattle.card.specs.Row.{registerBytes, rowBytes, regsOf, putRegs, marked, zeros, wellFormed, mark}
+use Rattle.card.specs.Row.{registerBytes, rowBytes, regsOf, putRegs, marked, zeros, spare, wellFormed, mark}
 use Rattle.registers.specs.Fit.{onLine}
 use Rattle.registers.specs.Registers.{afterRead, afterWrite, hardwareReset}
 use Rattle.registers.specs.Refusals.{writeNumber}
@@ -38,7 +38,7 @@ unfolding freshRow
 regs-fresh = regs-put bare hardwareReset (lit≤ tt)
 
 pub well-fresh : wellFormed freshRow ≡ true
-unfolding freshRow putRegs wellFormed marked zeros
+unfolding freshRow putRegs wellFormed marked spare zeros
 well-fresh = rw (regs-fresh, fit-reset)
 
 pub fresh-off : onLine (regsOf freshRow) ≡ false

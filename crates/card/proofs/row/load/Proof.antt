@@ -4,11 +4,9 @@ use borrow.Author.Needs.{needs}
 use Rattle.card.proofs.row.load.Statement.{statement}
 use Rattle.card.proofs.row.load.Tie as tie
 
-pub load-spec : {M : Type 1} → statement M
+returns : tie.Need-returns
 unfolding regsOf
-load-spec =
-    tie.close
-    (tie.spec (λ c. search needs) (λ c. search needs) (λ c. search needs) (λ c. search needs)
-    (λ c. search needs) (λ c. search needs) (λ c. search needs) (λ c. search needs) (λ c. search needs)
-    (λ c. search needs) (λ c. search needs) (λ c. search needs) (λ c. search needs) (λ c. search needs)
-    (λ c. search needs))
+returns c = search needs
+
+pub load-spec : {M : Type 1} → statement M
+load-spec = tie.close (tie.spec (λ c. search needs) (λ c. search needs) (λ c. search needs) (λ c. search needs) (λ c. search needs) (λ c. search needs) (λ c. search needs) (λ c. search needs) (λ c. search needs) (λ c. search needs) (λ c. search needs) (λ c. search needs) (λ c. search needs) (λ c. search needs) (λ c. search needs) (λ c. search needs) (λ c. search needs) (λ c. search needs) (λ c. search needs) (λ c. search needs) (λ c. search needs) returns)

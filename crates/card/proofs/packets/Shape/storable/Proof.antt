@@ -6,11 +6,11 @@ use Rattle.card.proofs.packets.Shape.storable.Tie as tie
 
 returns : tie.Need-returns
 unfolding storable
-returns c = search needs
+returns c = simp (c .enum-told .given .1)
 
 returns-2 : tie.Need-returns-2
 unfolding storable
-returns-2 c = search needs
+returns-2 c = simp (c .enum-told2 .given .1)
 
 returns-3 : tie.Need-returns-3
 unfolding storable
