@@ -6,14 +6,14 @@ use mathlib.Core.List.{List, [], _∷_}
 use Prim.Native.Nat.{ℕ, _+_, _*_, _≤_, _<_}
 use lib.ListN.{length, getD}
 use Rattle.bits.specs.Words.{among}
-use Rattle.registers.specs.Layout.{at-diagnostic, held, readChanges}
+use Rattle.registers.specs.Layout.{at-diagnostic, readChanges}
 use Rattle.registers.specs.Numbers.{Smallest}
 use Rattle.card.specs.Packets.{shapeOf, dataBytes, CanBeSent, malformed}
 use Rattle.card.specs.Moves.{OnlyAt}
 use Rattle.line.specs.declared.traffic.Outcome.{Outcome}
 use Rattle.line.specs.declared.step.Answer.the-variants.{Held}
 use Rattle.table.specs.Network.{headerBytes, rows, phase, holder, Bytes, TAKEN, rowAt, regsAt, shape, SameFrame, OnlyRow, LOST, onLineAt}
-use Rattle.table.specs.Calls.{placeRefusals, placeNumber, netReadRefusals, netReading, netAfterRead, netWriteRefusals, netWriteNumber, netWriteMoves, netAfterWrite, netAfterReset, timerRefusals, timerNumber, netAfterTimer, netInterrupt, netData, netDataRefusals, netDataNumber, freshRefusals, freshNumber, netAfterFresh}
+use Rattle.table.specs.Calls.{placeRefusals, placeNumber, netReadRefusals, netReading, netAfterRead, netWriteRefusals, netWriteNumber, netWriteMoves, netAfterWrite, resetMoves, netAfterReset, timerRefusals, timerNumber, netAfterTimer, netInterrupt, netData, netDataRefusals, netDataNumber, freshRefusals, freshNumber, netAfterFresh}
 use Rattle.line.specs.Step.{stepRefusals, step, answerNumber, answerValue, highest}
 use Rattle.line.specs.Outcomes.{stores, rowMoves, HolderLeft, meets}
 use Rattle.desk.specs.declared.laps.Taker.{Taker}
@@ -87,7 +87,7 @@ pub record NoOtherByte : Type 0 where
   pub read : (net : List ℕ) (k g : ℕ) → OnlyRow net (netAfterRead net k g) k (among (readChanges g))
   pub read-header : (net : List ℕ) (k g i : ℕ) → i < headerBytes → getD (netAfterRead net k g) i 0 ≡ getD net i 0
   pub write : (net : List ℕ) (k g v : ℕ) → OnlyRow net (netAfterWrite net k g v) k (netWriteMoves net k g v)
-  pub reset : (net : List ℕ) (k : ℕ) → OnlyRow net (netAfterReset net k) k held
+  pub reset : (net : List ℕ) (k : ℕ) → OnlyRow net (netAfterReset net k) k (resetMoves net k)
   pub timer : (net : List ℕ) (k : ℕ) → OnlyRow net (netAfterTimer net k) k (among (at-diagnostic ∷ []))
   pub step-frame : (net : List ℕ) → Bytes net → shape net ≡ true → (fault : ℕ) → SameFrame net (step net fault .after)
   pub step-row : (net : List ℕ) → Bytes net → shape net ≡ true → (fault j : ℕ) → j < rows net

@@ -99,7 +99,13 @@ receiveBytes chaining = at-receive ∷ pick chaining (at-second-receive ∷ at-r
 abbrev pub queueBytes : Bool → List ℕ
 queueBytes chaining = transmitBytes chaining ++ receiveBytes chaining
 
--- the register bytes that a read may change: "1 gives diagnostic status and then zeroes it"; of 4, the pointer
+-- the register bytes that a hardware reset may change: "ID, tentative ID, NID, mask, setup, pointer, mode and diagnostic 0, configuration 18 hex, status 91 hex,
+-- bytes 13-15 zero"; C-11: 16-31 too
+abbrev pub resetBytes : Bool → List ℕ
+resetBytes chaining =
+    at-id ∷ at-tentative ∷ at-nid ∷ at-mask ∷ at-setup ∷ at-high ∷ at-low ∷ at-mode ∷ at-diagnostic ∷ at-configuration ∷ at-status ∷ at-long ∷ queueBytes chaining
+
+-- those that a read may change: "1 gives diagnostic status and then zeroes it"; of 4, the pointer
 abbrev pub readChanges : ℕ → List ℕ
 readChanges k = pick (eqb k 1) (at-diagnostic ∷ []) (pick (eqb k 4) (at-high ∷ at-low ∷ []) [])
 

@@ -7,11 +7,12 @@ use lib.Dec.{eqb, leb, ltb}
 use lib.ListN.{length, replicate}
 use Rattle.table.specs.declared.calls.Reading.{Reading}
 use Rattle.table.specs.declared.calls.Interrupting.{Interrupting}
-use Rattle.bits.specs.Words.{pick}
+use Rattle.bits.specs.Words.{pick, among}
 use Rattle.registers.specs.Numbers.{VALUE, NOTREADY, Refusal, _when_, told}
 use Rattle.registers.specs.Fit.{onLine}
 use Rattle.registers.specs.Registers.{interrupt, afterWrite}
-use Rattle.registers.specs.Layout.{at-diagnostic}
+use Rattle.registers.specs.Layout.{at-diagnostic, resetBytes}
+use Rattle.registers.specs.Sides.{chaining}
 use Rattle.registers.specs.Refusals.{readRefusals, writeRefusals}
 use Rattle.card.specs.Access.{valueRead, rowAfterRead, rowAfterWrite, rowAfterReset, freshRow}
 use Rattle.card.specs.Moves.{writeMoves}
@@ -81,6 +82,10 @@ netWriteMoves net k g v i =
 -- ---- hardware reset, timer, interrupt
 unfoldable pub netAfterReset : List ℕ → ℕ → List ℕ
 netAfterReset net k = pick (eqb (placeNumber net k) 0) (settled (setRow net k (rowAfterReset (rowAt net k))) k (onLineAt net k)) net
+
+-- the bytes of row k that it may move
+abbrev pub resetMoves : List ℕ → ℕ → ℕ → Bool
+resetMoves net k = among (resetBytes (chaining (regsAt net k)))
 
 -- "5 NOTREADY: .. timer on a row not on line"
 abbrev pub timerRefusals : List ℕ → ℕ → List Refusal

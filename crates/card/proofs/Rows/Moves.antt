@@ -13,12 +13,14 @@ use lib.Seq.{getD-set-other}
 use Rattle.registers.specs.declared.regs.Regs.{Regs}
 use Rattle.card.specs.declared.packets.Packet.{Packet}
 use Rattle.bits.specs.Words.{among}
-use Rattle.registers.specs.Layout.{at-id, at-received, at-fetched, at-nak-high, held, readChanges, writeChanges}
+use Rattle.registers.specs.Layout.{at-id, at-received, at-fetched, at-nak-high, resetBytes, readChanges, writeChanges}
+use Rattle.registers.specs.Sides.{chaining}
+use Rattle.registers.specs.Registers.{hardwareReset}
 use Rattle.bits.proofs.Words.Bools.{cases, and-left, and-right, and-true, and-false, or-left, or-right, pick-of}
 use Rattle.registers.proofs.Values.Keeps.{Keeps, keeps-read}
-use Rattle.registers.proofs.Values.Unqueued.{unqueued-fit, keeps-changes}
+use Rattle.registers.proofs.Values.Unqueued.{unqueued-fit, keeps-changes, keeps-hardware}
 use Rattle.card.specs.Row.{registerBytes, rowBytes, regsOf, putRegs, wellFormed}
-use Rattle.card.specs.Access.{pointed, rowAfterRead, ramWritten, rowAfterWrite}
+use Rattle.card.specs.Access.{pointed, rowAfterRead, ramWritten, rowAfterWrite, rowAfterReset}
 use Rattle.card.specs.Packets.{dataAt, headBytes, pageBytes, pageAt, stored, stamped}
 use Rattle.card.specs.Moves.{OnlyAt, inPacket, writeMoves}
 use Rattle.card.proofs.Rows.Bytes.{regs-same, length-put, put-rest, put-at, put-later, regs-at, later-at, well-fit}
@@ -113,6 +115,5 @@ module _ (r : List ℕ) (l : length r ≡ rowBytes) where
       (only-wider m _ (λ i f. or-left _ (eqb k 4 && eqb i (pointed r)) f)
       (only-put (writeChanges (regsOf r) k) m _ (omega (arith, length-ram r k (pointed r) v)) (rw e (keeps-changes (regsOf r) (λ c. unqueued-fit (regsOf r) c (well-fit r w)) k v))))
 
-  -- other registers, whatever they are
-  pub only-registers : (g : Regs) → OnlyAt held r (putRegs r g)
-  only-registers g = record { size = length-put r g; same = put-rest r g }
+  pub only-reset : wellFormed r ≡ true → OnlyAt (among (resetBytes (chaining (regsOf r)))) r (rowAfterReset r)
+  only-reset w = only-put (resetBytes (chaining (regsOf r))) r hardwareReset (omega arith) (keeps-hardware (regsOf r) (well-fit r w))

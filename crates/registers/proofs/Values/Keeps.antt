@@ -20,7 +20,7 @@ use Rattle.queues.specs.Queues as queues
 use Rattle.registers.specs.Sides.{sideOf, withSide}
 use Rattle.registers.specs.Commands.{commandOf}
 use Rattle.registers.specs.Registers.{sub, stepped, afterRead, softwareReset, changesChaining, rechained, configured, commanded, seventhWritten, afterWrite}
-use Rattle.registers.specs.Layout.{at-id, at-status, at-diagnostic, at-mask, at-configuration, at-setup, at-tentative, at-nid, at-high, at-low, at-mode, at-transmit, at-receive, at-long, at-second-transmit, at-second-receive, at-sent, at-received, at-fetched, bytesOf, laterOf, transmitBytes, receiveBytes, queueBytes, readChanges, writeBytes}
+use Rattle.registers.specs.Layout.{at-id, at-status, at-diagnostic, at-mask, at-configuration, at-setup, at-tentative, at-nid, at-high, at-low, at-mode, at-transmit, at-receive, at-long, at-second-transmit, at-second-receive, at-sent, at-received, at-fetched, bytesOf, laterOf, transmitBytes, receiveBytes, queueBytes, resetBytes, readChanges, writeBytes}
 use Rattle.registers.specs.Events.{burst, recovered, heard, answered, risenNid, received, transmitCancelled, cancelled, sent, enquired}
 use Rattle.bits.proofs.Words.Bools.{and-left, and-right, pick-of, pick-both}
 use Rattle.queues.proofs.Leaves.{cancelled-done}
@@ -68,6 +68,14 @@ keeps-puts l g h n u e j = record {
   kept = λ k f. ap (λ (b : List ℕ). getD b (suc (suc k)) 0) e ∙ puts-other l n (row g) (suc (suc k)) u (rw (row-at k) at f);
   later = λ k f. ap (λ (b : List ℕ). getD b k 0) j;
 }
+
+-- every byte of a reset
+pub keeps-all : (g h : Regs) → laterOf h ≡ laterOf g → Keeps (resetBytes true) g h
+keeps-all g h e =
+    keeps-puts (resetBytes true) g h
+    ((2, h .id) ∷ (3, h .status) ∷ (4, h .diagnostic) ∷ (5, h .mask) ∷ (6, h .configuration) ∷ (7, h .setup) ∷ (8, h .tentative) ∷ (9, h .nid) ∷ (10, h .high) ∷ (11, h .low)
+    ∷ (12, h .mode) ∷ (13, h .transmit .oldest) ∷ (14, h .receive .oldest) ∷ (15, h .long) ∷ (16, h .transmit .second) ∷ (17, h .receive .second) ∷ (18, h .transmit .done)
+    ∷ (19, h .receive .done) ∷ []) refl refl e
 
 -- a side: the status, and the three bytes of its queue
 abbrev pub sideBytes : Way → List ℕ

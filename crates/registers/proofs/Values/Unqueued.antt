@@ -20,12 +20,13 @@ use Rattle.registers.specs.Sides.{chaining, sideOf}
 use Rattle.registers.specs.Fields.{with-configuration}
 use Rattle.registers.specs.Fit.{named, fit}
 use Rattle.registers.specs.Commands.{commandOf}
-use Rattle.registers.specs.Registers.{sub, stepped, changesChaining, configured, commanded, seventhWritten, afterWrite}
-use Rattle.registers.specs.Layout.{at-second-transmit, at-second-receive, at-sent, at-received, at-fetched, writeBytes, writeChanges}
+use Rattle.registers.specs.Registers.{sub, stepped, hardwareReset, changesChaining, configured, commanded, seventhWritten, afterWrite}
+use Rattle.registers.specs.Layout.{resetBytes, at-second-transmit, at-second-receive, at-sent, at-received, at-fetched, writeBytes, writeChanges}
 use Rattle.registers.specs.Events.{received, transmitCancelled, cancelled, sent}
 use Rattle.bits.proofs.Words.Bools.{cases, and-left, and-right, or-left, or-right, pick-of, pick-both}
 use Rattle.queues.proofs.Alone.{Alone, alone-fit, alone-enabled, alone-disabled, alone-cleared, alone-ended, alone-cancelled}
-use Rattle.registers.proofs.Values.Keeps.{Keeps, row, row-at, keeps-write}
+use Rattle.registers.proofs.Values.Keeps.{Keeps, row, row-at, keeps-write, keeps-all}
+use Rattle.registers.proofs.Values.Fits.{fit-rules}
 
 pub record Unqueued (g : Regs) : Type 0 where
   pub transmit : Alone (g .transmit)
@@ -149,3 +150,11 @@ plain-writes g k =
 pub keeps-changes : (g : Regs) → (chaining g ≡ false → Unqueued g) → (k v : ℕ) → Keeps (writeChanges g k) g (afterWrite g k v)
 keeps-changes g u k v =
     keeps-chained (chaining g) (λ c. writeBytes c g k) (plain-writes g k) g (afterWrite g k v) (λ c. (u c, unqueued-write g c (u c) k v)) (keeps-write g k v)
+
+-- ---- a hardware reset
+pub keeps-hardware : (g : Regs) → fit g ≡ true → Keeps (resetBytes (chaining g)) g hardwareReset
+unfolding hardwareReset
+keeps-hardware g f =
+    let r = fit-rules g f in
+    keeps-chained (chaining g) resetBytes refl g hardwareReset (λ c. (unqueued-fit g c f, search))
+    (keeps-all g hardwareReset (rw (eqb-true (g .later .fetched) 0 (r .fetched), eqb-true (g .later .naklow) 0 (r .naklow), eqb-true (g .later .nakhigh) 0 (r .nakhigh))))

@@ -22,11 +22,11 @@ use Rattle.card.specs.Access.{rowAfterRead, rowAfterWrite, rowAfterReset}
 use Rattle.card.specs.Moves.{OnlyAt, writeMoves}
 use Rattle.card.proofs.Rows.Bytes.{length-put, regs-put}
 use Rattle.card.proofs.Rows.WellFormed.{length-read, length-write}
-use Rattle.card.proofs.Rows.Moves.{only-stays, only-then, only-wider, only-put, only-read, only-write, only-registers}
+use Rattle.card.proofs.Rows.Moves.{only-stays, only-then, only-wider, only-put, only-read, only-write, only-reset}
 use Rattle.table.specs.Network.{headerBytes, rowStart, rows, LOST, turned, rowAt, setRow, onRegs, regsAt, onLineAt, shape, OnlyRow}
-use Rattle.table.specs.Calls.{placeNumber, netReadNumber, netAfterRead, isHolder, settled, netWriteNumber, netWriteMoves, netAfterWrite, netAfterReset, timerNumber, netAfterTimer}
+use Rattle.table.specs.Calls.{placeNumber, netReadNumber, netAfterRead, isHolder, settled, netWriteNumber, netWriteMoves, netAfterWrite, resetMoves, netAfterReset, timerNumber, netAfterTimer}
 use Rattle.table.proofs.Rows.Networks.{length-setRow, rowAt-setRow, setRow-header, rowAt-turned}
-use Rattle.table.proofs.Shaped.Shapes.{shape-within, shape-row-length}
+use Rattle.table.proofs.Shaped.Shapes.{shape-within, shape-row, shape-row-length}
 use Rattle.table.proofs.Shaped.KeptRows.{regs-write}
 use Rattle.table.proofs.Access.Placed.{read-placed, write-placed, timer-placed, row-there}
 use Rattle.table.proofs.Access.Refused.{write-refused, reset-refused, timer-refused}
@@ -85,15 +85,15 @@ module _ (net : List ℕ) (s : shape net ≡ true) (k : ℕ) (l : k < rows net) 
   write-row g v =
       pick-of (λ (x : List ℕ). OnlyAt (netWriteMoves net k g v) row (rowAt x k)) (eqb (netWriteNumber net k g v) 0)
       (λ _. only-settled (rowAfterWrite row g v) (length-write row long g v) (netWriteMoves net k g v)
-      (only-wider row _ (λ i m. or-left (writeMoves row g i) _ m) (only-write row long g v))
+      (only-wider row _ (λ i m. or-left (writeMoves row g i) _ m) (only-write row long (shape-row net s k l) g v))
       (λ f t i m. rw (f, sym (ap onLine (regs-write row long g v)) ∙ t) at (or-right (writeMoves row g i) _ m)))
       (λ _. only-stays _ row)
 
-  reset-row : OnlyAt held row (rowAt (netAfterReset net k) k)
+  reset-row : OnlyAt (resetMoves net k) row (rowAt (netAfterReset net k) k)
   unfolding netAfterReset
   reset-row =
-      pick-of (λ (x : List ℕ). OnlyAt held row (rowAt x k)) (eqb (placeNumber net k) 0)
-      (λ _. only-settled (rowAfterReset row) (length-put row hardwareReset ∙ long) held (only-registers row long hardwareReset)
+      pick-of (λ (x : List ℕ). OnlyAt (resetMoves net k) row (rowAt x k)) (eqb (placeNumber net k) 0)
+      (λ _. only-settled (rowAfterReset row) (length-put row hardwareReset ∙ long) (resetMoves net k) (only-reset row long (shape-row net s k l))
       (λ f t i m. absurd (false≢true (sym (ap onLine (regs-put row hardwareReset (omega (arith, long))) ∙ reset-off) ∙ t))))
       (λ _. only-stays _ row)
 
@@ -143,7 +143,7 @@ module _ (net : List ℕ) (k : ℕ) where
   write-only g v =
       only-of _ (λ n. write-refused net k g v (λ z. n (row-there net k (write-placed net k g v z)))) (λ s l. (write-beside net s k l g v, write-row net s k l g v))
 
-  pub reset-only : OnlyRow net (netAfterReset net k) k held
+  pub reset-only : OnlyRow net (netAfterReset net k) k (resetMoves net k)
   reset-only = only-of _ (λ n. reset-refused net k (λ z. n (row-there net k z))) (λ s l. (reset-beside net s k l, reset-row net s k l))
 
   pub timer-only : OnlyRow net (netAfterTimer net k) k (among (at-diagnostic ∷ []))
