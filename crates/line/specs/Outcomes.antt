@@ -2,9 +2,10 @@
 -- Assumes nothing.
 use mathlib.Core.Path.{_≡_}
 use mathlib.Core.Bool.{Bool, true, false, not, _&&_, _||_}
-use mathlib.Core.List.{List, [], _∷_}
+use mathlib.Core.List.{List, [], _∷_, _++_}
 use Prim.Native.Nat.{ℕ}
 use lib.Dec.{eqb}
+use Rattle.queues.specs.declared.queues.Way.the-variants.{Transmit}
 use Rattle.registers.specs.declared.regs.Regs.{Regs}
 use Rattle.card.specs.declared.packets.Shape.{Shape}
 use Rattle.line.specs.declared.traffic.Outcome.{Outcome}
@@ -12,8 +13,10 @@ use Rattle.line.specs.declared.traffic.Outcome.the-variants.{Nothing, Ma
 use Rattle.line.specs.declared.step.Answer.{Answer}
 use Rattle.line.specs.declared.step.Answer.the-variants.{Refused, Quiet, Recovered, Passed, Unanswered, TokenLost, Held}
 use Rattle.bits.specs.Words.{pick, has, among}
-use Rattle.registers.specs.Layout.{at-status, at-diagnostic, at-nid, at-transmit, at-receive}
+use Rattle.registers.specs.Layout.{at-status, at-diagnostic, at-nid, at-receive, at-second-receive, transmitBytes, receiveBytes}
+use Rattle.registers.specs.Sides.{chaining, tta}
 use Rattle.bits.specs.Flags.{TMA, TA}
+use Rattle.queues.specs.Queues.{two, movedUp}
 use Rattle.card.specs.Packets.{pageAt, malformed, pageShape, destination, storable}
 use Rattle.card.specs.Moves.{inPacket}
 use Rattle.registers.specs.Events.{heard, cancelled, sent, enquired, transmitting, receiving, transmitPage, receivePage}
@@ -22,12 +25,12 @@ use Rattle.line.specs.Traffic.{damaged, takes}
 use Rattle.line.specs.Step.{stepNumber}
 
 -- ---- who stores the packet of a step
--- the holder's row, the page of the packet that it tries, and the packet's shape and DID
+-- the holder's row, the page of the packet that it tries after its cancels, and the packet's shape and DID
 abbrev pub sender : List ℕ → List ℕ
 sender net = rowAt net (holder net)
 
 abbrev pub sentPage : List ℕ → ℕ
-sentPage net = transmitPage (regsAt net (holder net))
+sentPage net = transmitPage (cancelled (regsAt net (holder net)))
 
 abbrev pub sentShape : List ℕ → Shape
 sentShape net = pageShape (sender net) (sentPage net)
@@ -50,15 +53,21 @@ stores net fault j =
 -- ---- "no other byte moves": the bytes of row j that a step may move, where the row stores the packet or does not
 -- LOST: "RECON is set in every awake row, each on-line row's NID becomes its own ID". PASS: RCVACT, TOKEN, DUPID and TENTID in the rows; "NID rises by one". TAKEN:
 -- in the holder its cancels, RCVACT, TA, TMA and byte 13, and "own ID .. at byte 0 of the transmit page"; in the others RCVACT, and where the packet is stored
--- "RI = 1, byte 14 zero", and its places in the receive page
+-- "RI = 1, byte 14 zero", and its places in the receive page; C-11: of a chaining row also the second's bytes and the ends that are not cleared
+abbrev pub holderBytes : Bool → List ℕ
+holderBytes chaining = at-status ∷ at-diagnostic ∷ at-receive ∷ pick chaining (at-second-receive ∷ []) [] ++ transmitBytes chaining
+
+abbrev pub storingBytes : Bool → List ℕ
+storingBytes chaining = at-status ∷ receiveBytes chaining
+
 abbrev pub rowMoves : List ℕ → Bool → ℕ → ℕ → Bool
 rowMoves net storing j i =
     pick (eqb (phase net) LOST) (among (at-status ∷ at-nid ∷ []) i)
     (pick (eqb (phase net) PASS) (eqb i at-diagnostic || eqb j (holder net) && eqb i at-nid)
-    (pick (eqb j (holder net)) (among (at-status ∷ at-diagnostic ∷ at-transmit ∷ at-receive ∷ []) i || eqb i (pageAt (sentPage net)))
-    (eqb i at-diagnostic || storing && (among (at-status ∷ at-receive ∷ []) i || inPacket (receivePage (regsAt net j)) (sentShape net) i))))
+    (pick (eqb j (holder net)) (among (holderBytes (chaining (regsAt net j))) i || eqb i (pageAt (sentPage net)))
+    (eqb i at-diagnostic || storing && (among (storingBytes (chaining (regsAt net j))) i || inPacket (receivePage (regsAt net j)) (sentShape net) i))))
 
--- ---- what an outcome says of the holder's TA and TMA after the step
+-- ---- what an outcome says of the holder's TA, TMA and TTA after the step
 -- "Nothing (TA already 1). Malformed: TA = 1. DID 0, Broadcast: TA = 1 .. NoAnswer, TA = 1; .. NAK, TA stays 0; .. Delivered, TA = 1 and TMA = 1.
 -- .. Unacknowledged, TA = 1, TMA = 0"
 abbrev pub outcomeTA : Outcome → Bool
@@ -80,6 +89,16 @@ outcomeTMA Nak was = false
 outcomeTMA Delivered was = true
 outcomeTMA Unacknowledged was = false
 
+-- C-11, "TTA .. set on completion": whether a transmit ended
+abbrev pub completes : Outcome → Bool
+completes Nothing = false
+completes Malformed = true
+completes Broadcast = true
+completes NoAnswer = true
+completes Nak = false
+completes Delivered = true
+completes Unacknowledged = true
+
 -- what happened to the holder's registers: its cancels took effect; then the transmit ended, acknowledged or not, or it waits on; an ACK or NAK was heard
 abbrev pub holderAfter : Outcome → Regs → Regs
 holderAfter Nothing g = cancelled g
@@ -90,12 +109,20 @@ holderAfter Nak g = enquired (cancelled g) true
 holderAfter Delivered g = sent (heard (cancelled g) false) true
 holderAfter Unacknowledged g = sent (heard (cancelled g) false) false
 
--- the holder's registers before and after the step: what happened to them and no more, and so TA, TMA and byte 13; "wherever TA becomes 1, byte 13 becomes zero"
+-- the holder's registers before and after the step: what happened to them and no more, and so TA, TMA, TTA and byte 13. TA is 1 where no second waits after the
+-- cancels, else the second has moved up; "the status of the first kept": TMA stays with TTA
 pub record HolderLeft (before after : Regs) (o : Outcome) : Type 0 where
   pub registers : after ≡ holderAfter o before
+  pub ta : has TA (after .status) ≡ (outcomeTA o && not (two Transmit (cancelled before .transmit)))
+  pub tma : has TMA (after .status) ≡ pick (tta before) (has TMA (before .status)) (outcomeTMA o (has TMA (before .status)))
+  pub page : outcomeTA o ≡ true → after .transmit .oldest ≡ movedUp Transmit (cancelled before .transmit)
+  pub told : tta after ≡ (tta before || chaining before && completes o)
+
+-- in a row with CCHEN 0: "wherever TA becomes 1, byte 13 becomes zero"
+pub record PlainLeft (before after : Regs) (o : Outcome) : Type 0 where
   pub ta : has TA (after .status) ≡ outcomeTA o
   pub tma : has TMA (after .status) ≡ outcomeTMA o (has TMA (before .status))
-  pub page : outcomeTA o ≡ true → after .transmit ≡ 0
+  pub page : outcomeTA o ≡ true → after .transmit .oldest ≡ 0
 
 -- ---- "A fault that meets no message of its kind does nothing": the messages of a fault-free step, by what it answers
 -- 1, a packet

@@ -65,7 +65,7 @@ module _ (net : List ℕ) (s : shape net ≡ true) (j : ℕ) (aside : phase net 
       fits = fit-rules (regsOf t) (well-fit t w)
 
       page-small : sentPage net < 4
-      page-small = transmit-page-small (regsAt net h)
+      page-small = transmit-page-small (cancelled (regsAt net h))
 
       sender-size : length (sender net) ≡ rowBytes
       sender-size = shape-row-length net s h (held-row net s)
@@ -80,15 +80,26 @@ module _ (net : List ℕ) (s : shape net ≡ true) (j : ℕ) (aside : phase net 
       space : pageAt q + pageBytes (k .shape) ≤ length t
       space = room (sender net) (sentPage net) sender-size page-small k sent (a .full) (a .count) t l fits on can
 
+      -- its registers, of the bytes that it may move
+      chains-same : chaining (regsOf (stored t q k)) ≡ chaining (regsOf r)
+      chains-same = rw (regs-stored t l q k space (a .full) (a .count), y .registers .configuration)
+
+      keeps-storing : Keeps (storingBytes (chaining (regsOf (stored t q k)))) (regsOf (stored t q k)) (received (regsOf (stored t q k)))
+      keeps-storing =
+          rw (regs-stored t l q k space (a .full) (a .count))
+          (keeps-chained (chaining (regsOf t)) storingBytes refl (regsOf t) _
+          (λ c. let u = unqueued-fit (regsOf t) c (well-fit t w) in (u, unqueued-received (regsOf t) c u)) (keeps-received (storingBytes true) (regsOf t) refl))
+
       pub moved : Moves true t (storedRow t k)
       moved =
           let x = stored t q k in
           let n = ne-eqb j h (aside (z .taken)) in
-          let split : (v : ℕ) → rowMoves net true j v ≡ false → (among (at-status ∷ at-receive ∷ []) v ≡ false) × (inPacket (receivePage (regsOf r)) (sentShape net) v ≡ false)
-          = λ v u. let f : (eqb v at-diagnostic || (among (at-status ∷ at-receive ∷ []) v || inPacket (receivePage (regsOf r)) (sentShape net) v)) ≡ false
+          let b = storingBytes (chaining (regsOf r)) in
+          let split : (v : ℕ) → rowMoves net true j v ≡ false → (among b v ≡ false) × (inPacket (receivePage (regsOf r)) (sentShape net) v ≡ false)
+          = λ v u. let f : (eqb v at-diagnostic || (among b v || inPacket (receivePage (regsOf r)) (sentShape net) v)) ≡ false
           = rw (z .taken, n, ← er) at u in
-          let g = or-right (eqb v at-diagnostic) _ f in (or-left (among (at-status ∷ at-receive ∷ []) v) _ g, or-right (among (at-status ∷ at-receive ∷ []) v) _ g) in
+          let g = or-right (eqb v at-diagnostic) _ f in (or-left (among b v) _ g, or-right (among b v) _ g) in
           only-then t x _
           (only-wider t x (λ v u. rw (receive-page-same (regsOf r) (regsOf t) (y .registers), sent .form) (split v u .1)) (only-stored t q k space (a .full) (a .count)))
           (only-wider x _ (λ v u. split v u .0)
-          (only-put (at-status ∷ at-receive ∷ []) x _ (omega (arith, l, length-stored t q k space (a .full) (a .count))) (keeps-received _ (regsOf x) refl refl)))
+          (only-put b x _ (omega (arith, l, length-stored t q k space (a .full) (a .count))) (rw (← chains-same) keeps-storing)))

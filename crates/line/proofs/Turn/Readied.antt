@@ -1,4 +1,4 @@
--- The holder's row when its cancels have taken effect: the packet that it then tries is the one that it had.
+-- The holder's row when its cancels have taken effect, and the packet that it then tries.
 -- Assumes nothing.
 use mathlib.Core.Path.{_≡_, refl, _∙_, ap}
 use mathlib.Core.Bool.{true, false}
@@ -6,13 +6,13 @@ use mathlib.Core.List.{List, [], _∷_}
 use Prim.Native.Nat.{ℕ, _≤_, _<_}
 use native.Mathlib.Omega.{arith}
 use lib.ListN.{length, getD}
-use Rattle.registers.specs.Layout.{at-status, at-transmit, at-receive}
-use Rattle.registers.specs.Events.{cancelled, transmitting, transmitPage}
-use Rattle.card.specs.Row.{regsOf, putRegs}
+use Rattle.registers.specs.Layout.{at-status, queueBytes}
+use Rattle.registers.specs.Events.{cancelled, transmitPage}
+use Rattle.card.specs.Row.{registerBytes, regsOf, putRegs}
 use Rattle.card.specs.Packets.{malformed, pageShape, destination, packetAt, stamped}
 use Rattle.registers.proofs.Values.SameCard.{same-cancelled}
 use Rattle.registers.proofs.Values.Keeps.{keeps-cancelled}
-use Rattle.registers.proofs.Values.Ends.{transmit-page-small, page-of}
+use Rattle.registers.proofs.Values.Ends.{transmit-page-small}
 use Rattle.card.proofs.Rows.Bytes.{length-put, put-ram}
 use Rattle.card.proofs.Pages.Stored.{length-stamped}
 use Rattle.card.proofs.Pages.Same.{shape-same, did-same}
@@ -27,7 +27,7 @@ use Rattle.line.proofs.Steps.Stepped.{held-row}
 use Rattle.line.proofs.Change.Changes.{Cancels}
 use Rattle.line.proofs.Change.Made.{own-row, own-here}
 
-module _ (net : List ℕ) (s : shape net ≡ true) (t : transmitting (cancelled (regsAt net (holder net))) ≡ true) where
+module _ (net : List ℕ) (s : shape net ≡ true) where
   abbrev h : ℕ
   h = holder net
 
@@ -57,10 +57,10 @@ module _ (net : List ℕ) (s : shape net ≡ true) (t : transmitting (cancelled 
   ram = rw there (put-ram row (cancelled (regsOf row)))
 
   long : regsOf (rowAt m h) .long ≡ regsOf row .long
-  long = rw here (keeps-cancelled (at-status ∷ at-transmit ∷ at-receive ∷ []) (regsOf row) refl refl refl .kept 13 refl)
+  long = rw here (keeps-cancelled (at-status ∷ queueBytes true) (regsOf row) refl .kept 13 refl)
 
   pub same-page : page ≡ sentPage net
-  same-page = ap transmitPage here ∙ page-of (regsAt net h) t
+  same-page = ap transmitPage here
 
   pub same-form : pageShape (rowAt m h) page ≡ sentShape net
   same-form = rw same-page (shape-same row (rowAt m h) size long ram (sentPage net))
@@ -75,4 +75,4 @@ module _ (net : List ℕ) (s : shape net ≡ true) (t : transmitting (cancelled 
       let e : rowAt (stampedNet m h page) h ≡ stamped (rowAt m h) page
       = rowAt-setRow m h _ (shape-within m (now .fits) h lm) (length-stamped (rowAt m h) page ∙ shape-row-length m (now .fits) h lm) in
       rw (e, same-page)
-      (sent-from row (rowAt m h) (sentPage net) (transmit-page-small (regsAt net h)) size (shape-row-length net s h low) (rw here (same-cancelled (regsAt net h) .id)) long ram f)
+      (sent-from row (rowAt m h) (sentPage net) (transmit-page-small (cancelled (regsAt net h))) size (shape-row-length net s h low) (rw here (same-cancelled (regsAt net h) .id)) long ram f)
