@@ -3,5 +3,6 @@ pub mod Faults
 pub mod Asides
 pub mod Filling
 pub mod Bystanding
+pub mod Left
 pub mod TheHolder
 pub mod EveryRow

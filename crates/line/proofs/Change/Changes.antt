@@ -113,7 +113,7 @@ pub record Goes (start : List ℕ) (l : List Change) (to : ℕ) (k : Packet) : T
   pub tries : Tries start
   pub once : (j : ℕ) (g : Regs) → storedBy (holder start) l j g ≡ false
   pub whole : Whole k
-  pub packet : SentFrom (rowAt start (holder start)) (transmitPage (regsAt start (holder start))) k
+  pub packet : SentFrom (rowAt start (holder start)) (transmitPage (cancelled (regsAt start (holder start)))) k
   pub other : to ≡ holder start → ⊥
 
 -- a message is the holder's
@@ -128,7 +128,7 @@ Allowed start l (Does Rises) = phase start ≡ PASS
 Allowed start l (Does Cancels) = phase start ≡ TAKEN
 Allowed start l (Does (Enquires nak)) = Tries start
 Allowed start l (Does (Ends b a)) = Tries start
-Allowed start l (Stamps p) = Tries start × (p ≡ transmitPage (regsAt start (holder start)))
+Allowed start l (Stamps p) = Tries start × (p ≡ transmitPage (cancelled (regsAt start (holder start))))
 Allowed start l (Carries to broadcast k) = Goes start l to k
 
 pub sane : (start : List ℕ) (l : List Change) (c : Change) → Allowed start l c → Sane c

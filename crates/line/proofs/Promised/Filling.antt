@@ -2,7 +2,7 @@
 -- Assumes nothing.
 use mathlib.Core.Path.{_≡_, refl}
 use mathlib.Core.Bool.{Bool, true, false, _&&_, _||_}
-use mathlib.Core.List.{List, [], _∷_}
+use mathlib.Core.List.{List}
 use Prim.Native.Nat.{ℕ, _+_, _≤_, _<_}
 use native.Mathlib.Omega.{arith}
 use lib.Dec.{eqb}
@@ -10,24 +10,27 @@ use lib.ListN.{length}
 use borrow.Author.Tests.{ne-eqb}
 use Rattle.card.specs.declared.packets.Packet.{Packet}
 use Rattle.bits.specs.Words.{among}
-use Rattle.registers.specs.Layout.{at-status, at-diagnostic, at-receive}
-use Rattle.registers.specs.Events.{receiving, receivePage}
+use Rattle.registers.specs.Layout.{at-diagnostic}
+use Rattle.registers.specs.Sides.{chaining}
+use Rattle.registers.specs.Events.{cancelled, received, receiving, receivePage}
 use Rattle.card.specs.Row.{rowBytes, regsOf, wellFormed}
 use Rattle.card.specs.Packets.{pageBytes, pageAt, stored, storable}
 use Rattle.card.specs.Moves.{OnlyAt, inPacket}
 use Rattle.bits.proofs.Words.Bools.{and-left, and-right, or-left, or-right}
 use Rattle.registers.proofs.Values.Fits.{Fit, fit-rules}
-use Rattle.registers.proofs.Values.Keeps.{keeps-received}
+use Rattle.registers.proofs.Values.Keeps.{Keeps, keeps-received}
+use Rattle.registers.proofs.Values.Unqueued.{keeps-chained, unqueued-fit, unqueued-received}
 use Rattle.registers.proofs.Values.Ends.{transmit-page-small}
 use Rattle.registers.proofs.Values.Listens.{takes-same, receive-page-same}
 use Rattle.card.proofs.Rows.Bytes.{well-fit}
+use Rattle.card.proofs.Rows.WellFormed.{regs-stored}
 use Rattle.card.proofs.Rows.Moves.{only-then, only-wider, only-put, only-stored}
 use Rattle.card.proofs.Rows.Bystanders.{storable-same, Bystander, Storing, stores-after, room, stores-stored}
 use Rattle.card.proofs.Pages.Stored.{length-stored}
 use Rattle.card.proofs.Pages.Sent.{SentFrom}
 use Rattle.table.specs.Network.{phase, holder, TAKEN, rowAt, regsAt, shape}
 use Rattle.line.specs.Traffic.{storedRow, takes}
-use Rattle.line.specs.Outcomes.{sender, sentPage, sentShape, stores, rowMoves}
+use Rattle.line.specs.Outcomes.{sender, sentPage, sentShape, storingBytes, stores, rowMoves}
 use Rattle.table.proofs.Shaped.Shapes.{shape-row-length}
 use Rattle.line.proofs.Change.Changes.{Carries, Whole, Tries, storesIt}
 use Rattle.line.proofs.Steps.Stepped.{held-row}

@@ -14,55 +14,35 @@ use Rattle.card.specs.declared.packets.Packet.{Packet}
 use Rattle.line.specs.declared.passes.Event.{Event}
 use Rattle.line.specs.declared.passes.Event.the-variants.{Recovery, Message, Taken}
 use Rattle.line.specs.declared.traffic.Outcome.{Outcome}
-use Rattle.line.specs.declared.traffic.Outcome.the-variants.{Nothing, Malformed, Broadcast, NoAnswer, Nak, Delivered, Unacknowledged}
 use Rattle.line.specs.declared.step.Answer.the-variants.{Held}
-use Rattle.bits.specs.Words.{pick, among}
-use Rattle.registers.specs.Layout.{at-status, at-diagnostic, at-transmit, at-receive}
-use Rattle.registers.specs.Events.{heard, cancelled, sent, transmitting, receiving, takesBroadcasts}
-use Rattle.card.specs.Row.{rowBytes, regsOf, putRegs}
+use Rattle.bits.specs.Words.{pick, has, among}
+use Rattle.bits.specs.Flags.{CCHEN}
+use Rattle.registers.specs.Sides.{chaining}
+use Rattle.registers.specs.Events.{heard, receiving, takesBroadcasts}
+use Rattle.card.specs.Row.{registerBytes, rowBytes, regsOf, putRegs, wellFormed}
 use Rattle.card.specs.Packets.{pageAt, storable}
 use Rattle.card.specs.Moves.{OnlyAt}
 use Rattle.bits.proofs.Words.Bools.{cases, and-left, and-right, or-left, or-right, pick-of}
-use Rattle.registers.proofs.Values.Fits.{Fit}
-use Rattle.registers.proofs.Values.FitEvents.{fit-cancelled}
+use Rattle.registers.proofs.Values.Fits.{Fit, fit-rules, rules-fit}
+use Rattle.registers.proofs.Values.Unqueued.{keeps-chained, unqueued-fit}
 use Rattle.registers.proofs.Values.Keeps.{Keeps, keeps-same, keeps-cancelled, keeps-enquired, keeps-heard-sent, keeps-sent}
-use Rattle.registers.proofs.Values.Ends.{enquired-nak, enquired-unanswered, is-sent, heard-status, waits, idle, cancelled-tma}
-use Rattle.card.proofs.Rows.Bytes.{regs-put}
+use Rattle.card.proofs.Rows.Bytes.{regs-put, well-fit}
 use Rattle.card.proofs.Rows.WellFormed.{regs-stamped}
 use Rattle.card.proofs.Rows.Moves.{only-stays, only-then, only-wider, only-put, only-stamped}
 use Rattle.table.specs.Network.{phase, holder, TAKEN, rowAt, onRegs, regsAt, shape}
 use Rattle.line.specs.Traffic.{happens, carriedRow}
 use Rattle.line.specs.Step.{step}
-use Rattle.line.specs.Outcomes.{sentPage, stores, rowMoves, outcomeTA, outcomeTMA, holderAfter, HolderLeft}
-use Rattle.table.proofs.Folds.{clash}
+use Rattle.line.specs.Outcomes.{sentPage, stores, holderBytes, rowMoves, holderAfter, HolderLeft}
 use Rattle.table.proofs.Shaped.Alike.{Rams}
 use Rattle.line.proofs.Change.Made.{row-fits}
 use Rattle.line.proofs.Steps.Stepped.{held-row}
 use Rattle.line.proofs.Change.Changes.{Own, Rises, Cancels, Enquires, Ends, Change, Reaches, Does, Stamps, Carries, does, rowDone, Allowed, Comes, allDone}
 use Rattle.line.proofs.Change.Paths.{by-rows}
 use Rattle.line.proofs.Turn.Storing.{Reached}
-use Rattle.line.proofs.Turn.Says.{tried, SaysHeld}
+use Rattle.line.proofs.Turn.Says.{SaysHeld}
+use Rattle.line.proofs.Change.Registers.{StillBy, still-cancelled, still-asked, still-heard-sent, still-sent}
+use Rattle.line.proofs.Promised.Left.{left-by}
 use Rattle.line.proofs.Steps.StepBy.{step-by}
-
--- ---- the holder's registers, as the outcomes leave them
-module _ (was g : Regs) where
-  -- a transmit that ended
-  left-sent : (a : Bool) (o : Outcome) → sent g a ≡ holderAfter o was → outcomeTA o ≡ true → ((b : Bool) → outcomeTMA o b ≡ a) → HolderLeft was (sent g a) o
-  left-sent a o i e t = let d = is-sent g a in record { registers = i; ta = d .ta ∙ sym e; tma = d .tma ∙ sym (t _); page = λ _. d .page }
-
-left-by : (g : Regs) → Fit g → (o : Outcome) → transmitting (cancelled g) ≡ tried o → HolderLeft g (holderAfter o g) o
-left-by g f Nothing e =
-    let d = idle (cancelled g) (fit-cancelled g f) e in
-    record { registers = refl; ta = d .0; tma = cancelled-tma g; page = λ _. d .1 }
-left-by g f Malformed e = left-sent g _ false Malformed refl refl (λ b. refl)
-left-by g f Broadcast e = left-sent g _ false Broadcast refl refl (λ b. refl)
-left-by g f NoAnswer e = rw (enquired-unanswered (cancelled g)) (left-sent g _ false NoAnswer (sym (enquired-unanswered (cancelled g))) refl (λ b. refl))
-left-by g f Nak e =
-    let d = waits (cancelled g) (fit-cancelled g f) e in
-    let i = heard-status (cancelled g) false in
-    rw (enquired-nak (cancelled g)) (record { registers = sym (enquired-nak (cancelled g)); ta = rw i (d .0); tma = rw i (d .1); page = λ z. absurd (clash z refl) })
-left-by g f Delivered e = left-sent g _ true Delivered refl refl (λ b. refl)
-left-by g f Unacknowledged e = left-sent g _ false Unacknowledged refl refl (λ b. refl)
 
 -- the holder takes no packet of its own
 not-own : (h to : ℕ) (broadcast : Bool) (k : Packet) (r : List ℕ) → (to ≡ h → ⊥) → carriedRow h to broadcast k h r ≡ r
@@ -82,7 +62,7 @@ module _ (net : List ℕ) (p : phase net ≡ TAKEN) where
   h = holder net
 
   abbrev registers-moved : List ℕ
-  registers-moved = at-status ∷ at-diagnostic ∷ at-transmit ∷ at-receive ∷ []
+  registers-moved = holderBytes (chaining (regsAt net h))
 
   -- what the holder's row may move
   may : (x : Bool) (i : ℕ) → rowMoves net x h i ≡ false → (among registers-moved i || eqb i (pageAt (sentPage net))) ≡ false
@@ -91,19 +71,34 @@ module _ (net : List ℕ) (p : phase net ≡ TAKEN) where
   only-registers : (x : Bool) (r : List ℕ) (g : Regs) → registerBytes ≤ length r → Keeps registers-moved (regsOf r) g → OnlyAt (rowMoves net x h) r (putRegs r g)
   only-registers x r g l k = only-wider r _ (λ i e. or-left (among registers-moved i) _ (may x i e)) (only-put registers-moved r g l k)
 
-  own-keeps : (l : List Change) (o : Own) → Allowed net l (Does o) → (g : Regs) → Keeps registers-moved g (does o g)
-  own-keeps l Rises a g = absurd (omega (arith, p, a))
-  own-keeps l Cancels a g = keeps-cancelled _ g refl refl refl
-  own-keeps l (Enquires nak) a g = keeps-enquired _ g refl refl refl nak
-  own-keeps l (Ends true x) a g = keeps-heard-sent _ g refl refl refl x
-  own-keeps l (Ends false x) a g = keeps-sent _ g refl refl x
+  -- a change of its own leaves the card that it was, and the other bytes
+  own-still : (l : List Change) (o : Own) → Allowed net l (Does o) → StillBy (does o)
+  own-still l Rises a = absurd (omega (arith, p, a))
+  own-still l Cancels a = still-cancelled
+  own-still l (Enquires nak) a = still-asked nak
+  own-still l (Ends true x) a = still-heard-sent false x
+  own-still l (Ends false x) a = still-sent x
+
+  own-wide : (l : List Change) (o : Own) → Allowed net l (Does o) → (g : Regs) → Keeps (holderBytes true) g (does o g)
+  own-wide l Rises a g = absurd (omega (arith, p, a))
+  own-wide l Cancels a g = keeps-cancelled _ g refl
+  own-wide l (Enquires nak) a g = keeps-enquired _ g refl nak
+  own-wide l (Ends true x) a g = keeps-heard-sent _ g refl x
+  own-wide l (Ends false x) a g = keeps-sent _ g refl x
+
+  own-keeps : (l : List Change) (o : Own) → Allowed net l (Does o) → (g : Regs) → Fit g → chaining g ≡ chaining (regsAt net h) → Keeps registers-moved g (does o g)
+  own-keeps l o a g f e =
+      let t = own-still l o a g f in
+      keeps-chained (chaining (regsAt net h)) holderBytes refl g (does o g)
+      (λ c. (unqueued-fit g (e ∙ c) (rules-fit g f), unqueued-fit (does o g) (ap (has CCHEN) (t .kept .configuration) ∙ e ∙ c) (rules-fit (does o g) (t .fits)))) (own-wide l o a g)
 
   -- row h, by the changes of its own
   record Left (x : Bool) (f : Regs → Regs) (r : List ℕ) : Type 0 where
     registers : regsOf r ≡ f (regsAt net h)
+    chains : chaining (regsOf r) ≡ chaining (regsAt net h)
     moves : OnlyAt (rowMoves net x h) (rowAt net h) r
 
-  module _ (x : Bool) (l : List Change) (r : List ℕ) (m : length r ≡ rowBytes) (q : Left x (allDone l) r) where
+  module _ (x : Bool) (l : List Change) (r : List ℕ) (m : length r ≡ rowBytes) (w : wellFormed r ≡ true) (q : Left x (allDone l) r) where
     then : (s : List ℕ) → OnlyAt (rowMoves net x h) r s → OnlyAt (rowMoves net x h) (rowAt net h) s
     then s o = only-then (rowAt net h) r s (q .moves) o
 
@@ -113,6 +108,7 @@ module _ (net : List ℕ) (p : phase net ≡ TAKEN) where
         let t : pick (eqb h k) (regsOf r) (heard (regsOf r) token) ≡ regsOf r = rw (a .0, eq-eqb h h refl) in
         record {
           registers = regs-put r _ (omega arith) ∙ t ∙ q .registers;
+          chains = ap chaining (regs-put r _ (omega arith) ∙ t) ∙ q .chains;
           moves = then _ (only-registers x r _ (omega arith) (rw t (keeps-same _ (regsOf r))));
         }
     own-event (Taken i t) a = absurd (omega (arith, p, a))
@@ -120,23 +116,26 @@ module _ (net : List ℕ) (p : phase net ≡ TAKEN) where
     own-changes : (c : Change) → Allowed net l c → Left x (allDone (c ∷ l)) (rowDone h c h r)
     own-changes (Reaches e) a = own-event e a
     own-changes (Does o) a =
+        let f = fit-rules (regsOf r) (well-fit r w) in
         rw (eq-eqb h h refl) (record {
           registers = regs-put r _ (omega arith) ∙ ap (does o) (q .registers);
-          moves = then _ (only-registers x r _ (omega arith) (own-keeps l o a (regsOf r)));
+          chains = ap chaining (regs-put r _ (omega arith)) ∙ ap (has CCHEN) (own-still l o a (regsOf r) f .kept .configuration) ∙ q .chains;
+          moves = then _ (only-registers x r _ (omega arith) (own-keeps l o a (regsOf r) f (q .chains)));
         })
     own-changes (Stamps y) a =
         rw (eq-eqb h h refl) (record {
           registers = regs-stamped r m y ∙ q .registers;
+          chains = ap chaining (regs-stamped r m y) ∙ q .chains;
           moves = then _ (only-wider r _ (λ i e. rw (a .1) (or-right (among registers-moved i) _ (may x i e))) (only-stamped r y));
         })
-    own-changes (Carries to broadcast k) a = rw (not-own h to broadcast k r (a .other)) (record { registers = q .registers; moves = q .moves })
+    own-changes (Carries to broadcast k) a = rw (not-own h to broadcast k r (a .other)) (record { registers = q .registers; chains = q .chains; moves = q .moves })
 
   -- ---- through a step
   module _ (s : shape net ≡ true) (b : Rams net) (fault : ℕ) where
     own-step : (x : Bool) → Left x (allDone (step-by net s b fault .changes)) (rowAt (step net fault .after) h)
     own-step x =
-        by-rows net s b (λ l j r. j ≡ h → Left x (allDone l) r) (λ j _ e. rw e (record { registers = refl; moves = only-stays _ (rowAt net h) }))
-        (λ l c a j r m _ q e. rw e (own-changes x l r m (q e) c a)) (step-by net s b fault .path) h (held-row net s) refl
+        by-rows net s b (λ l j r. j ≡ h → Left x (allDone l) r) (λ j _ e. rw e (record { registers = refl; chains = refl; moves = only-stays _ (rowAt net h) }))
+        (λ l c a j r m w q e. rw e (own-changes x l r m w (q e) c a)) (step-by net s b fault .path) h (held-row net s) refl
 
     pub moves-holder : OnlyAt (rowMoves net (stores net fault h) h) (rowAt net h) (rowAt (step net fault .after) h)
     moves-holder = own-step (stores net fault h) .moves

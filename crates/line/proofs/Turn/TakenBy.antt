@@ -91,10 +91,10 @@ module _ (net : List ℕ) (s : shape net ≡ true) (b : Rams net) (fault : ℕ) 
 
     -- the shape, the DID and the addressee are those that the row had
     form-is : form ≡ sentShape net
-    form-is = same-form net s (tries .waits)
+    form-is = same-form net s
 
     did-is : did ≡ sentTo net
-    did-is = same-did net s (tries .waits)
+    did-is = same-did net s
 
     to-is : to ≡ nodeOf net (sentTo net) h (rows net)
     to-is = rw did-is (alike-node-of now (sentTo net) h)
@@ -132,8 +132,8 @@ module _ (net : List ℕ) (s : shape net ≡ true) (b : Rams net) (fault : ℕ) 
       unfolding wentOut
       went-out to broadcast other =
           let x = stampedNet m h page in
-          let c = more cancels (Stamps page) (tries, same-page net s (tries .waits)) in
-          let went = sent net s (tries .waits) now f in
+          let c = more cancels (Stamps page) (tries, same-page net s) in
+          let went = sent net s now f in
           let a = sound net s b c in
           let d = more c (Reaches (Message h false)) (refl, λ e. omega (arith, p, e)) in
           let k = packetAt (rowAt x h) page in
