@@ -3,7 +3,7 @@
 
 use std::collections::VecDeque;
 
-use crate::model::{Network, Phase, Transmitter};
+use crate::model::{Network, Phase};
 use crate::peer::Peer;
 use crate::prompt::{Lent, Prompt};
 use crate::tally::Tally;
@@ -174,13 +174,8 @@ fn packet_at_the_token(network: &Network) -> Option<bool> {
         return None;
     };
     let row = &network.rows[holder];
-    match row.transmitter {
-        Transmitter::Waiting {
-            page,
-            cancel_asked: false,
-        } => Some(row.layout(page)?.long()),
-        Transmitter::Waiting { .. } | Transmitter::Available { .. } => None,
-    }
+    let tried = row.transmit.queue.without_cancelled().oldest()?;
+    Some(row.layout(tried.page)?.long())
 }
 
 fn shown(exchange: &Exchange) -> String {

@@ -10,6 +10,7 @@ mod order;
 mod packet;
 mod peer;
 mod prompt;
+mod queue;
 mod refusal;
 mod registers;
 mod rng;

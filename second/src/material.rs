@@ -1,9 +1,10 @@
 //! Random material for the scenes of a campaign: orders, register bytes, values and lines.
 
 use crate::model::{
-    Configuration, Diagnostic, Mask, Mode, Receiver, Row, Transmitter, MOST_ROWS, RAM, REGISTERS,
+    Configuration, Diagnostic, Mask, Mode, Row, CHAINING, MOST_ROWS, RAM, REGISTERS,
 };
 use crate::order::{ORDER_MARK, RECORD};
+use crate::queue::{Enabled, Queue, Side, MOST_UNCLEARED};
 use crate::rng::Rng;
 use crate::tally::COMMANDS;
 
@@ -86,42 +87,34 @@ pub fn damaged_order(rng: &mut Rng, records: usize) -> Vec<u8> {
 
 /// Register bytes of a well-formed row in any state at all.
 pub fn registers(rng: &mut Rng, node_id: u8) -> [u8; REGISTERS] {
+    let configuration = configuration(rng);
     let long_packets = rng.one_in(3);
-    let page = |rng: &mut Rng| {
-        if long_packets {
-            rng.pick(&[0, 2])
-        } else {
-            rng.below(4) as u8
+    let most_waiting = if configuration.cchen { 2 } else { 1 };
+    let mut side = |receive: bool| {
+        let mut enabled = || enabled(rng, receive, long_packets);
+        let (oldest, second) = (enabled(), enabled());
+        let waiting = rng.below(most_waiting + 1);
+        let completions = rng.below(usize::from(MOST_UNCLEARED) + 1) as u8;
+        Side {
+            queue: Queue::of(
+                (waiting > 0).then_some(oldest),
+                (waiting > 1).then_some(second),
+            ),
+            uncleared: if configuration.cchen { completions } else { 0 },
         }
     };
-    let transmitter = if rng.flag() {
-        Transmitter::Available {
-            acknowledged: rng.flag(),
-        }
-    } else {
-        Transmitter::Waiting {
-            page: page(rng),
-            cancel_asked: rng.one_in(6),
-        }
-    };
-    let receiver = if rng.one_in(3) {
-        Receiver::Inhibited
-    } else {
-        Receiver::Enabled {
-            page: page(rng),
-            broadcasts: rng.flag(),
-            cancel_asked: rng.one_in(6),
-        }
-    };
+    let (transmit, receive) = (side(false), side(true));
     let row = Row {
         node_id,
         por: rng.one_in(4),
         recon: rng.flag(),
-        transmitter,
-        receiver,
+        transmit,
+        receive,
+        tma: rng.flag() && (transmit.idle() || transmit.completed()),
+        stored_tma: rng.flag() && transmit.uncleared == MOST_UNCLEARED,
         diagnostic: diagnostic(rng),
         mask: mask(rng),
-        configuration: configuration(rng),
+        configuration,
         setup: rng.below(8) as u8,
         tentative_id: nearby_id(rng),
         nid: nearby_id(rng),
@@ -135,6 +128,18 @@ pub fn registers(rng: &mut Rng, node_id: u8) -> [u8; REGISTERS] {
         ram: [0; RAM],
     };
     row.registers()
+}
+
+fn enabled(rng: &mut Rng, receive: bool, long_packets: bool) -> Enabled {
+    Enabled {
+        page: if long_packets {
+            rng.pick(&[0, 2])
+        } else {
+            rng.below(4) as u8
+        },
+        broadcasts: receive && rng.flag(),
+        cancel_asked: rng.one_in(6),
+    }
 }
 
 fn diagnostic(rng: &mut Rng) -> Diagnostic {
@@ -159,6 +164,7 @@ fn mask(rng: &mut Rng) -> Mask {
 fn configuration(rng: &mut Rng) -> Configuration {
     Configuration {
         reset: rng.one_in(8),
+        cchen: rng.flag(),
         txen: !rng.one_in(4),
         et1: rng.flag(),
         et2: rng.flag(),

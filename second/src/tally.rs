@@ -199,6 +199,9 @@ pub const COMMANDS: [u8; 20] = [
     0x06, 0x0E, 0x16, 0x1E,
 ];
 
+/// The two that only a row with chaining takes: Clear Transmit Interrupt, Clear Receive Interrupt.
+pub const CLEARS: [u8; 2] = [0x00, 0x08];
+
 /// Counts by what was asked and what was answered.
 #[derive(Default)]
 pub struct Tally {
