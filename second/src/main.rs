@@ -15,6 +15,7 @@ mod refusal;
 mod registers;
 mod rng;
 mod scenes;
+mod sights;
 mod sweeps;
 mod tally;
 #[cfg(test)]

@@ -1,8 +1,6 @@
 //! Random material for the scenes of a campaign: orders, register bytes, values and lines.
 
-use crate::model::{
-    Configuration, Diagnostic, Mask, Mode, Row, CHAINING, MOST_ROWS, RAM, REGISTERS,
-};
+use crate::model::{Configuration, Diagnostic, Mask, Mode, Row, MOST_ROWS, RAM, REGISTERS};
 use crate::order::{ORDER_MARK, RECORD};
 use crate::queue::{Enabled, Queue, Side, MOST_UNCLEARED};
 use crate::rng::Rng;
@@ -183,12 +181,23 @@ pub fn nearby_id(rng: &mut Rng) -> u8 {
     }
 }
 
-/// A configuration that keeps to the ordinary: on or off line, in reset or not.
+/// A configuration that keeps to the ordinary: on or off line, in reset or not, with chaining or
+/// without.
 pub fn plain_configuration(rng: &mut Rng) -> u8 {
-    rng.pick(&[
+    let configuration = rng.pick(&[
         0x18, 0x19, 0x1A, 0x1B, 0x38, 0x38, 0x38, 0x39, 0x39, 0x3A, 0x3B, 0x3C, 0x98, 0xB8, 0xB9,
-        0x78,
-    ])
+    ]);
+    configuration | rng.pick(&[0x00, 0x40])
+}
+
+/// A configuration with CCHEN as it is to be.
+pub fn with_chaining(configuration: u8, cchen: bool) -> u8 {
+    let configuration = Configuration::from_byte(configuration);
+    Configuration {
+        cchen,
+        ..configuration
+    }
+    .byte()
 }
 
 /// The Enable bits of a page: n is bit 3, f is bit 5, and the page is 2n + f.

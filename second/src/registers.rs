@@ -1,8 +1,6 @@
 //! Document 01, "Registers", with request C-11: the calls on one card, and what they do to the line.
 
-use crate::model::{
-    bit, Configuration, Diagnostic, Mask, Mode, Network, Phase, Row, RAM,
-};
+use crate::model::{bit, Configuration, Diagnostic, Mask, Mode, Network, Phase, Row, RAM};
 use crate::queue::Side;
 use crate::refusal::Refusal;
 
