@@ -50,12 +50,12 @@ pub fn run(peer: &mut dyn Peer) -> Result<(), String> {
             result
                 .as_ref()
                 .err()
-                .map_or("as it is to be", String::as_str)
+                .map_or("as the documents have it", String::as_str)
         );
         failed |= result.is_err();
     }
     if failed {
-        Err("not all cases are as they are to be".to_string())
+        Err("not all cases are as the documents have them".to_string())
     } else {
         Ok(())
     }

@@ -1,4 +1,6 @@
-//! Values worked out by hand from document 01.
+//! Values worked out by hand from document 01, and from request C-11 in `tests/chaining.rs`.
+
+mod chaining;
 
 use crate::model::{Network, Row, PAGE, RAM};
 use crate::prompt::{fnv, hex_text, Prompt};
