@@ -774,7 +774,7 @@ impl<'a> Player<'a> {
     /// Where bytes are to be changed, and to what.
     fn changed_bytes(&mut self) -> (usize, Vec<u8>) {
         let row = Network::length_for(self.some_row());
-        let at = match self.rng.weighted(&[4, 8, 4, 1, 3, 2, 2]) {
+        let at = match self.rng.weighted(&[4, 8, 4, 1, 3, 2, 2, 2]) {
             0 => self.rng.below(HEADER),
             1 => row + self.rng.below(CHAINING.start),
             2 => row + self.rng.between(CHAINING.start, REGISTERS - 1),
@@ -789,6 +789,12 @@ impl<'a> Player<'a> {
             5 => {
                 let twin = self.some_row_on_line().and_then(|twin| self.row(twin));
                 return (row + 2, vec![twin.map_or(0, |twin| twin.node_id)]);
+            }
+            // TMA set or not, with TA or without.
+            6 => {
+                let status = self.both.lent().image().get(row + 3).copied();
+                let flipped = status.unwrap_or(0) ^ self.rng.pick(&[0x02, 0x03]);
+                return (row + 3, vec![flipped]);
             }
             // A holder that may be off line or past the rows.
             _ => {

@@ -37,18 +37,23 @@ pub fn can_come() -> Vec<(String, &'static [&'static str])> {
     let mut all = vec![
         (packet(false), PACKET),
         (packet(true), PACKET),
+        (byte_changed("3"), DONE_OR_SHAPE),
         (byte_changed("16"), DONE_OR_SHAPE),
         (byte_changed("17"), DONE_OR_SHAPE),
         (byte_changed("18"), DONE_OR_SHAPE),
         (byte_changed("19"), DONE_OR_SHAPE),
         (byte_changed("20-31"), SHAPE),
         (byte_changed("32-63"), SHAPE),
+        (byte_changed("16-19 without CCHEN"), SHAPE),
+        (odd_second_page(), SHAPE),
         (masked_in("TTA"), &["DONE 1"]),
         (masked_in("TRI"), &["DONE 1"]),
         (masked_in("TA"), &["DONE 0"]),
         (masked_in("RI"), &["DONE 0"]),
         (masked_in("neither"), &["DONE 0"]),
         (both_queues_full(), DONE),
+        (tma_without_tta("Enable"), DONE),
+        (tma_without_tta("Clear"), DONE),
         (transmit_stays(), &["HELD NAK"]),
         (only_the_second_wants_it(), &["HELD BROADCAST"]),
         (lap("all chaining"), DONE),
@@ -107,6 +112,10 @@ fn byte_changed(which: &str) -> String {
     format!("check, byte {which} changed")
 }
 
+fn odd_second_page() -> String {
+    "check, odd second page and long".to_string()
+}
+
 fn status(tri: bool, tta: bool) -> String {
     format!("status, TRI {} TTA {}", u8::from(tri), u8::from(tta))
 }
@@ -131,6 +140,10 @@ fn change(cchen: bool, reset: bool, work: Work, id_taken: bool) -> String {
 
 fn enable(kind: &str, waiting: usize) -> String {
     format!("Enable {kind}, {waiting} waiting")
+}
+
+fn tma_without_tta(command: &str) -> String {
+    format!("{command} transmit, TMA and no TTA")
 }
 
 fn both_queues_full() -> String {
@@ -194,7 +207,9 @@ struct Glance {
     mask: Mask,
     transmit: Side,
     receive: Side,
+    tma: bool,
     stored_tma: bool,
+    long_packets: bool,
 }
 
 impl Glance {
@@ -209,7 +224,9 @@ impl Glance {
             mask: row.mask,
             transmit: row.transmit,
             receive: row.receive,
+            tma: row.tma,
             stored_tma: row.stored_tma,
+            long_packets: row.long_packets,
         }
     }
 
@@ -271,8 +288,8 @@ fn packet_at_the_token(network: &Network) -> Option<bool> {
 /// Sees each call, and keeps what the next one needs of it.
 #[derive(Default)]
 pub struct Watch {
-    /// The one byte of a row that the last call wrote into a well-formed network.
-    poked: Option<usize>,
+    /// What a `check` meets after the last call, which changed one byte of a well-formed network.
+    changed: Vec<String>,
 }
 
 impl Watch {
@@ -284,16 +301,18 @@ impl Watch {
         before: Option<&View>,
         after: Option<&View>,
     ) -> Vec<String> {
-        let poked = self.poked.take();
+        let changed = std::mem::take(&mut self.changed);
         if let ["check"] = words {
-            return poked.and_then(changed_before).into_iter().collect();
+            return changed;
         }
         let Some(before) = before else {
             return Vec::new();
         };
         if let ["poke", at, digits] = words {
-            let changed = after.is_none_or(|after| after.rows != before.rows);
-            self.poked = row_byte(at).filter(|_| digits.len() == 2 && changed);
+            let differs = after.is_none_or(|after| after.rows != before.rows);
+            if differs && digits.len() == 2 {
+                self.changed = changed_byte(before, at, digits);
+            }
         }
         match (words, after) {
             (["step", _], Some(after)) => step(before, after),
@@ -334,20 +353,31 @@ impl Watch {
     }
 }
 
-/// The byte of a row that lies there.
-fn row_byte(at: &str) -> Option<usize> {
-    let at = at.parse::<usize>().ok()?;
-    at.checked_sub(HEADER).map(|at| at % ROW)
-}
-
-/// Of the bytes that are zero without chaining.
-fn changed_before(byte: usize) -> Option<String> {
-    match byte {
-        16..=19 => Some(byte_changed(&byte.to_string())),
-        _ if CHAINING.contains(&byte) => Some(byte_changed("20-31")),
-        _ if (CHAINING.end..REGISTERS).contains(&byte) => Some(byte_changed("32-63")),
-        _ => None,
-    }
+/// One byte got another value: the status, or one of those that are zero without chaining.
+fn changed_byte(before: &View, at: &str, digits: &str) -> Vec<String> {
+    let at = at.parse::<usize>().ok();
+    let at = at.and_then(|at| at.checked_sub(HEADER));
+    let row = at.and_then(|at| before.rows.get(at / ROW));
+    let (Some(at), Some(row), Ok(value)) = (at, row, u8::from_str_radix(digits, 16)) else {
+        return Vec::new();
+    };
+    let byte = at % ROW;
+    let mut seen = vec![match byte {
+        3 => byte_changed("3"),
+        16..=19 if row.chaining => byte_changed(&byte.to_string()),
+        16..=19 => byte_changed("16-19 without CCHEN"),
+        _ if CHAINING.contains(&byte) => byte_changed("20-31"),
+        _ if (CHAINING.end..REGISTERS).contains(&byte) => byte_changed("32-63"),
+        _ => return Vec::new(),
+    }];
+    // A second that may be, but for its page: bit 6 of byte 16 and bit 5 of byte 17 say that it waits.
+    let odd_second = match byte {
+        16 => !row.transmit.idle() && value & !0x80 & !0x02 == 0x41,
+        17 => !row.receive.idle() && value & !0xC0 & !0x02 == 0x21,
+        _ => false,
+    };
+    seen.extend((row.chaining && row.long_packets && odd_second).then(odd_second_page));
+    seen
 }
 
 /// A command to a row with chaining.
@@ -370,6 +400,12 @@ fn commanded(was: &Glance, is: &Glance, command: Command) -> Vec<String> {
         Command::LongPackets(_) | Command::ClearFlags { .. } => return Vec::new(),
     }];
     seen.extend((!was.both_full() && is.both_full()).then(both_queues_full));
+    let kept_tma = was.tma && !was.transmit.completed();
+    match command {
+        Command::EnableTransmit { .. } if kept_tma => seen.push(tma_without_tta("Enable")),
+        Command::ClearTransmitInterrupt if kept_tma => seen.push(tma_without_tta("Clear")),
+        _ => {}
+    }
     seen
 }
 

@@ -16,10 +16,12 @@ impl Player<'_> {
         }
         for row in 0..self.rows().min(6) {
             if self.rng.flag() && !self.row(row).is_some_and(Row::chaining) {
-                // RESET ends what waits, so that CCHEN can change.
-                self.write(row, 6, 0xB8)?;
+                // RESET ends what waits, so that CCHEN can change; it clears TMA too.
+                if !self.rng.one_in(3) {
+                    self.write(row, 6, 0xB8)?;
+                }
                 self.write(row, 6, 0x78)?;
-                if self.rng.one_in(4) {
+                if self.rng.one_in(3) {
                     self.write(row, 1, 0x0D)?;
                 }
             }
@@ -31,7 +33,7 @@ impl Player<'_> {
             }
             let any = self.some_row();
             let row = self.some_row_chaining().unwrap_or(any);
-            match self.rng.weighted(&[6, 3, 4, 4, 2, 3, 4, 6, 2, 2, 1, 2, 3]) {
+            match self.rng.weighted(&[6, 3, 4, 4, 2, 3, 4, 6, 2, 2, 1, 3, 3]) {
                 0 => self.packet_tried(row)?,
                 1 => self.packet_tried(any)?,
                 2 => self.waiting_packet(row)?,
@@ -47,6 +49,7 @@ impl Player<'_> {
                 9 => self.call(&format!("read {row} 0"))?,
                 10 => self.settle()?,
                 11 => {
+                    let row = self.rng.pick(&[row, row, any]);
                     let change = self.changed_queue_byte(row);
                     self.damaged_by(change)?;
                 }
@@ -99,12 +102,19 @@ impl Player<'_> {
             }
             self.turn_of(row)?;
         }
-        match self.rng.below(4) {
+        match self.rng.below(6) {
             0 => self.configure(row, 0xB8)?,
             1 => self.call(&format!("reset {row}"))?,
-            _ => {
+            2 | 3 => {
                 let configuration = material::plain_configuration(&mut self.rng);
                 self.change_chaining(row, configuration)?;
+            }
+            // Off and on again: what is not cleared is gone, and TMA is still shown.
+            _ => {
+                self.change_chaining(row, 0x38)?;
+                self.change_chaining(row, 0x38)?;
+                let command = self.rng.pick(&[0x00, 0x03]);
+                self.write(row, 1, command)?;
             }
         }
         self.configure(row, 0x38)
@@ -118,12 +128,15 @@ impl Player<'_> {
 
     /// Another second Enable, or other completions, most often such as a row with chaining may have.
     fn changed_queue_byte(&mut self, row: usize) -> (usize, Vec<u8>) {
-        let page = self.page_for(row);
-        let second = self.rng.pick(&[0x40, 0x60, 0xC0, 0xE0, 0x20, 0xA0]) | page;
-        let completions = self.rng.pick(&[0x00, 0x01, 0x02, 0x82, 0x81, 0x03]);
+        let page = self.rng.below(4) as u8;
+        let transmit = self.rng.pick(&[0x40, 0x40, 0xC0, 0x80, 0x60]) | page;
+        let receive = self.rng.pick(&[0x20, 0x60, 0xA0, 0xE0, 0xC0, 0x30]) | page;
+        let completions = self.rng.pick(&[0x00, 0x01, 0x02, 0x03, 0x80, 0x81, 0x82]);
         let (byte, value) = self.rng.pick(&[
-            (16, second),
-            (17, second),
+            (16, transmit),
+            (16, transmit),
+            (17, receive),
+            (17, receive),
             (18, completions),
             (19, completions),
             (16, 0),
