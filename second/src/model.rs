@@ -1,8 +1,8 @@
 //! Document 01, "The saved network": the header and the rows as structs, and the bytes they are
 //! saved as, with those that request C-11 adds for rows with chaining.
 //!
-//! The structs hold only what a well-formed network can say. Reading takes each named bit into
-//! its field; bytes that the fields do not give back as they were are not well formed.
+//! Reading takes each named bit into its field. Bytes that the fields do not give back as they were
+//! are not well formed, nor are those whose fields do not fit each other.
 
 use crate::queue::{Enabled, Queue, Side, MOST_UNCLEARED};
 
