@@ -1,4 +1,5 @@
-//! The fixed cases of document 01, "Sums to prove and sums to run", and the sweeps.
+//! The fixed cases of document 01, "Sums to prove and sums to run", one of request C-11, and the
+//! sweeps.
 
 use crate::model::{Network, MOST_ROWS};
 use crate::order::ORDER_MARK;
@@ -6,7 +7,7 @@ use crate::peer::{InProcess, Peer};
 use crate::prompt::hex_text;
 use crate::sweeps;
 
-/// Lines with the answers that document 01 gives them.
+/// Lines with the answers that the documents give them.
 type Script = Vec<(String, String)>;
 
 pub fn run(peer: &mut dyn Peer) -> Result<(), String> {
@@ -26,6 +27,10 @@ pub fn run(peer: &mut dyn Peer) -> Result<(), String> {
             both.fault_on_broadcast(),
         ),
         (
+            "two packets queued go one a token",
+            both.follow(&two_packets_queued()),
+        ),
+        (
             "the values that each register takes",
             both.each(sweeps::registers),
         ),
@@ -42,12 +47,15 @@ pub fn run(peer: &mut dyn Peer) -> Result<(), String> {
     for (name, result) in results {
         println!(
             "{name}: {}",
-            result.as_ref().err().map_or("as 01 has it", String::as_str)
+            result
+                .as_ref()
+                .err()
+                .map_or("as the documents have it", String::as_str)
         );
         failed |= result.is_err();
     }
     if failed {
-        Err("not all cases are as 01 has them".to_string())
+        Err("not all cases are as the documents have them".to_string())
     } else {
         Ok(())
     }
@@ -121,6 +129,44 @@ fn to_own_id() -> Script {
         ("step 0", "HELD NOANSWER"),
         ("read 0 0", "DONE 21"), // 15 hex: POR, RECON and TA, RI 0 still
         ("peek 336 3", "DONE 5505FF"), // no packet went, so its byte 0 is as it was
+    ]));
+    lines
+}
+
+/// Two rows with chaining, 5 and 6; 5 has two packets for 6, which has two receives waiting. A lap
+/// is as long as without them, and takes the first; the next token takes the second.
+fn two_packets_queued() -> Script {
+    let mut lines = loaded(&[5, 6], "DONE");
+    let page = Network::length_for(0) + 64;
+    lines.extend(script(&[
+        ("write 0 6 120", "REFUSED 7 BUSY"), // 78 hex: CCHEN and TXEN, while a receive waits
+        ("write 0 6 184", "DONE"),           // B8 hex: RESET
+        ("write 0 6 120", "DONE"),
+        ("write 1 6 184", "DONE"),
+        ("write 1 6 120", "DONE"),
+        (&format!("poke {page} 5506FF"), "DONE"),
+        (&format!("poke {} AA5506FF", page + 255), "DONE"),
+        (&format!("poke {} BB", page + 511), "DONE"),
+        ("write 0 1 3", "DONE"),
+        ("write 0 1 35", "DONE"),
+        ("write 0 1 11", "REFUSED 7 BUSY"),
+        ("write 1 1 4", "DONE"),
+        ("write 1 1 36", "DONE"),
+        ("write 1 1 12", "REFUSED 7 BUSY"),
+        ("lap 2", "DONE 258 5 0 256 6 1 2"),
+        ("read 0 0", "DONE 87"), // 57 hex: RI, POR, RECON, TMA and TTA; TA is 0
+        ("read 1 0", "DONE 180"), // B4 hex: TRI, TA, POR and RECON; RI is 0
+        ("data 1 0", "DONE AA"),
+        ("data 1 1", "REFUSED 4 VALUE"),
+        ("step 0", "HELD NOTHING"),
+        ("step 0", "PASSED 0"),
+        ("step 0", "HELD DELIVERED"),
+        ("data 1 1", "DONE BB"),
+        ("read 0 0", "DONE 119"), // 77 hex: TA too
+        ("write 0 1 0", "DONE"),
+        ("read 0 0", "DONE 119"), // the second's
+        ("write 0 1 0", "DONE"),
+        ("read 0 0", "DONE 116"), // 74 hex: TMA and TTA are 0
     ]));
     lines
 }

@@ -3,9 +3,10 @@
 
 use std::collections::VecDeque;
 
-use crate::model::{Network, Phase, Transmitter};
+use crate::model::Network;
 use crate::peer::Peer;
 use crate::prompt::{Lent, Prompt};
+use crate::sights::{View, Watch};
 use crate::tally::Tally;
 
 /// Calls sent at a time. While the peer works on them the next ones are made.
@@ -33,6 +34,7 @@ pub struct Comparison<'a> {
     compared: VecDeque<Exchange>,
     compared_calls: u64,
     calls: u64,
+    watch: Watch,
     tally: Tally,
 }
 
@@ -47,6 +49,7 @@ impl<'a> Comparison<'a> {
             compared: VecDeque::new(),
             compared_calls: 0,
             calls: 0,
+            watch: Watch::default(),
             tally: Tally::default(),
         }
     }
@@ -70,10 +73,14 @@ impl<'a> Comparison<'a> {
 
     /// Makes a call here and queues it for the peer.
     pub fn call(&mut self, line: &[u8]) -> Result<(), String> {
-        let packet_is_long = self.network().and_then(packet_at_the_token);
+        let before = self.network().map(View::of);
         let answer = self.own.answer(line);
+        let after = self.network().map(View::of);
         let sum = self.own.answer(b"sum");
-        self.tally.record(line, &answer, packet_is_long);
+        let text = String::from_utf8_lossy(line);
+        let words: Vec<&str> = text.split(' ').collect();
+        let sights = self.watch.sights(&words, before.as_ref(), after.as_ref());
+        self.tally.record(&words, &answer, sights);
         self.unsent.extend_from_slice(line);
         self.unsent.extend_from_slice(b"\nsum\n");
         self.unsent_calls += 1;
@@ -165,21 +172,6 @@ pub fn same(here: &str, there: &str) -> bool {
         there.starts_with("ERROR")
     } else {
         here == there
-    }
-}
-
-/// Whether the packet that the holder is about to try is long; None where there is none.
-fn packet_at_the_token(network: &Network) -> Option<bool> {
-    let Phase::Taken { holder } = network.phase else {
-        return None;
-    };
-    let row = &network.rows[holder];
-    match row.transmitter {
-        Transmitter::Waiting {
-            page,
-            cancel_asked: false,
-        } => Some(row.layout(page)?.long()),
-        Transmitter::Waiting { .. } | Transmitter::Available { .. } => None,
     }
 }
 

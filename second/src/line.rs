@@ -1,6 +1,6 @@
-//! Document 01, "One line step", and the lap call.
+//! Document 01, "One line step", with request C-11, and the lap call.
 
-use crate::model::{Network, Phase, Receiver, Row, Transmitter};
+use crate::model::{Network, Phase, Row};
 use crate::packet::Packet;
 use crate::refusal::Refusal;
 
@@ -54,54 +54,42 @@ pub struct Taker {
 }
 
 impl Row {
-    /// TA becomes 1, and with it byte 13 zero.
+    /// The oldest transmit ends. The TMA of a completion that is not cleared stays shown; then the
+    /// new one is stored, also over one that is stored.
     fn transmit_ends(&mut self, acknowledged: bool) {
-        self.transmitter = Transmitter::Available { acknowledged };
+        if self.transmit.completed() {
+            self.stored_tma = acknowledged;
+        } else {
+            self.tma = acknowledged;
+        }
+        self.transmit.complete(self.chaining());
     }
 
     fn cancels_take_effect(&mut self) {
-        if matches!(
-            self.transmitter,
-            Transmitter::Waiting {
-                cancel_asked: true,
-                ..
-            }
-        ) {
-            self.transmit_ends(false);
-        }
-        if matches!(
-            self.receiver,
-            Receiver::Enabled {
-                cancel_asked: true,
-                ..
-            }
-        ) {
-            self.receiver = Receiver::Inhibited;
-        }
+        self.transmit.cancels_take_effect();
+        self.receive.cancels_take_effect();
     }
 
     /// Stores a packet where it can be: not in a row with RI = 1, not a long one where long
     /// packets are 0. A cancel that is only asked does not hinder it.
     fn store(&mut self, packet: &Packet) -> bool {
-        let Receiver::Enabled { page, .. } = self.receiver else {
+        let Some(receive) = self.receive.queue.oldest() else {
             return false;
         };
         if packet.long() && !self.long_packets {
             return false;
         }
-        self.lay_down(page, packet);
-        self.receiver = Receiver::Inhibited;
+        self.lay_down(receive.page, packet);
+        self.receive.complete(self.chaining());
         true
     }
 
+    /// The oldest receive decides.
     fn wants_broadcasts(&self) -> bool {
-        matches!(
-            self.receiver,
-            Receiver::Enabled {
-                broadcasts: true,
-                ..
-            }
-        )
+        self.receive
+            .queue
+            .oldest()
+            .is_some_and(|receive| receive.broadcasts)
     }
 }
 
@@ -208,7 +196,7 @@ impl Network {
     fn take_turn(&mut self, holder: usize, fault: Fault) -> Outcome {
         let row = &mut self.rows[holder];
         row.cancels_take_effect();
-        let Transmitter::Waiting { page, .. } = row.transmitter else {
+        let Some(page) = row.transmit.queue.oldest().map(|transmit| transmit.page) else {
             return Outcome::Nothing;
         };
         let Some(layout) = row.layout(page) else {

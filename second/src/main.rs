@@ -1,4 +1,4 @@
-//! The second program: document 01 once more, held against the program `bench`.
+//! The second program: document 01 with request C-11 once more, held against the program `bench`.
 
 mod benchmark;
 mod cases;
@@ -10,10 +10,12 @@ mod order;
 mod packet;
 mod peer;
 mod prompt;
+mod queue;
 mod refusal;
 mod registers;
 mod rng;
 mod scenes;
+mod sights;
 mod sweeps;
 mod tally;
 #[cfg(test)]

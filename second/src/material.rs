@@ -1,9 +1,8 @@
 //! Random material for the scenes of a campaign: orders, register bytes, values and lines.
 
-use crate::model::{
-    Configuration, Diagnostic, Mask, Mode, Receiver, Row, Transmitter, MOST_ROWS, RAM, REGISTERS,
-};
+use crate::model::{Configuration, Diagnostic, Mask, Mode, Row, MOST_ROWS, RAM, REGISTERS};
 use crate::order::{ORDER_MARK, RECORD};
+use crate::queue::{Enabled, Queue, Side, MOST_UNCLEARED};
 use crate::rng::Rng;
 use crate::tally::COMMANDS;
 
@@ -86,42 +85,34 @@ pub fn damaged_order(rng: &mut Rng, records: usize) -> Vec<u8> {
 
 /// Register bytes of a well-formed row in any state at all.
 pub fn registers(rng: &mut Rng, node_id: u8) -> [u8; REGISTERS] {
+    let configuration = configuration(rng);
     let long_packets = rng.one_in(3);
-    let page = |rng: &mut Rng| {
-        if long_packets {
-            rng.pick(&[0, 2])
-        } else {
-            rng.below(4) as u8
+    let most_waiting = if configuration.cchen { 2 } else { 1 };
+    let mut side = |receive: bool| {
+        let mut enabled = || enabled(rng, receive, long_packets);
+        let (oldest, second) = (enabled(), enabled());
+        let waiting = rng.below(most_waiting + 1);
+        let completions = rng.below(usize::from(MOST_UNCLEARED) + 1) as u8;
+        Side {
+            queue: Queue::of(
+                (waiting > 0).then_some(oldest),
+                (waiting > 1).then_some(second),
+            ),
+            uncleared: if configuration.cchen { completions } else { 0 },
         }
     };
-    let transmitter = if rng.flag() {
-        Transmitter::Available {
-            acknowledged: rng.flag(),
-        }
-    } else {
-        Transmitter::Waiting {
-            page: page(rng),
-            cancel_asked: rng.one_in(6),
-        }
-    };
-    let receiver = if rng.one_in(3) {
-        Receiver::Inhibited
-    } else {
-        Receiver::Enabled {
-            page: page(rng),
-            broadcasts: rng.flag(),
-            cancel_asked: rng.one_in(6),
-        }
-    };
+    let (transmit, receive) = (side(false), side(true));
     let row = Row {
         node_id,
         por: rng.one_in(4),
         recon: rng.flag(),
-        transmitter,
-        receiver,
+        transmit,
+        receive,
+        tma: rng.flag() && (transmit.idle() || transmit.completed()),
+        stored_tma: rng.flag() && transmit.uncleared == MOST_UNCLEARED,
         diagnostic: diagnostic(rng),
         mask: mask(rng),
-        configuration: configuration(rng),
+        configuration,
         setup: rng.below(8) as u8,
         tentative_id: nearby_id(rng),
         nid: nearby_id(rng),
@@ -135,6 +126,18 @@ pub fn registers(rng: &mut Rng, node_id: u8) -> [u8; REGISTERS] {
         ram: [0; RAM],
     };
     row.registers()
+}
+
+fn enabled(rng: &mut Rng, receive: bool, long_packets: bool) -> Enabled {
+    Enabled {
+        page: if long_packets {
+            rng.pick(&[0, 2])
+        } else {
+            rng.below(4) as u8
+        },
+        broadcasts: receive && rng.flag(),
+        cancel_asked: rng.one_in(6),
+    }
 }
 
 fn diagnostic(rng: &mut Rng) -> Diagnostic {
@@ -159,6 +162,7 @@ fn mask(rng: &mut Rng) -> Mask {
 fn configuration(rng: &mut Rng) -> Configuration {
     Configuration {
         reset: rng.one_in(8),
+        cchen: rng.flag(),
         txen: !rng.one_in(4),
         et1: rng.flag(),
         et2: rng.flag(),
@@ -177,12 +181,23 @@ pub fn nearby_id(rng: &mut Rng) -> u8 {
     }
 }
 
-/// A configuration that keeps to the ordinary: on or off line, in reset or not.
+/// A configuration that keeps to the ordinary: on or off line, in reset or not, with chaining or
+/// without.
 pub fn plain_configuration(rng: &mut Rng) -> u8 {
-    rng.pick(&[
+    let configuration = rng.pick(&[
         0x18, 0x19, 0x1A, 0x1B, 0x38, 0x38, 0x38, 0x39, 0x39, 0x3A, 0x3B, 0x3C, 0x98, 0xB8, 0xB9,
-        0x78,
-    ])
+    ]);
+    configuration | rng.pick(&[0x00, 0x40])
+}
+
+/// A configuration with CCHEN as it is to be.
+pub fn with_chaining(configuration: u8, cchen: bool) -> u8 {
+    let configuration = Configuration::from_byte(configuration);
+    Configuration {
+        cchen,
+        ..configuration
+    }
+    .byte()
 }
 
 /// The Enable bits of a page: n is bit 3, f is bit 5, and the page is 2n + f.

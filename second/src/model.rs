@@ -1,8 +1,10 @@
 //! Document 01, "The saved network": the header and the rows as structs, and the bytes they are
-//! saved as.
+//! saved as, with those that request C-11 adds for rows with chaining.
 //!
-//! The structs hold only what a well-formed network can say. Reading takes each named bit into
-//! its field; bytes that the fields do not give back as they were are not well formed.
+//! Reading takes each named bit into its field. Bytes that the fields do not give back as they were
+//! are not well formed, nor are those whose fields do not fit each other.
+
+use crate::queue::{Enabled, Queue, Side, MOST_UNCLEARED};
 
 pub const HEADER: usize = 16;
 pub const REGISTERS: usize = 64;
@@ -10,6 +12,9 @@ pub const RAM: usize = 1024;
 pub const ROW: usize = REGISTERS + RAM;
 pub const PAGE: usize = 256;
 pub const MOST_ROWS: usize = 60;
+
+/// The bytes of a row that are only for chaining; those past byte 19 are zero there too.
+pub const CHAINING: std::ops::Range<usize> = 16..32;
 
 const NETWORK_MARK: [u8; 2] = [0x41, 0x4E];
 const ROW_MARK: [u8; 2] = [0x4E, 0x44];
@@ -82,10 +87,11 @@ impl Mask {
     }
 }
 
-/// The configuration register. CCHEN has no field: it is refused when 1.
+/// The configuration register. Every bit of it has a name.
 #[derive(Clone, Copy, Debug, PartialEq, Eq)]
 pub struct Configuration {
     pub reset: bool,
+    pub cchen: bool,
     pub txen: bool,
     pub et1: bool,
     pub et2: bool,
@@ -97,6 +103,7 @@ impl Configuration {
     /// The value after a hardware reset, 18 hex.
     pub const DEFAULT: Configuration = Configuration {
         reset: false,
+        cchen: false,
         txen: false,
         et1: true,
         et2: true,
@@ -104,9 +111,10 @@ impl Configuration {
         sub_address: 0,
     };
 
-    fn from_named_bits(byte: u8) -> Self {
+    pub fn from_byte(byte: u8) -> Self {
         Configuration {
             reset: bit(byte, 7),
+            cchen: bit(byte, 6),
             txen: bit(byte, 5),
             et1: bit(byte, 4),
             et2: bit(byte, 3),
@@ -115,13 +123,9 @@ impl Configuration {
         }
     }
 
-    /// None where CCHEN is set.
-    pub fn from_byte(byte: u8) -> Option<Self> {
-        Some(Self::from_named_bits(byte)).filter(|configuration| configuration.byte() == byte)
-    }
-
     pub fn byte(self) -> u8 {
         set(7, self.reset)
+            | set(6, self.cchen)
             | set(5, self.txen)
             | set(4, self.et1)
             | set(3, self.et2)
@@ -158,47 +162,42 @@ impl Mode {
     }
 }
 
-/// TA, TMA and byte 13 in one: TA = 1 has byte 13 zero, and TMA = 1 needs TA = 1.
-#[derive(Clone, Copy, Debug, PartialEq, Eq)]
-pub enum Transmitter {
-    /// TA = 1; acknowledged is TMA.
-    Available { acknowledged: bool },
-    /// TA = 0.
-    Waiting { page: u8, cancel_asked: bool },
-}
+/// The bits that say in bytes 16 and 17 that a second Enable waits.
+const SECOND_TRANSMIT: u8 = 6;
+const SECOND_RECEIVE: u8 = 5;
 
-impl Transmitter {
-    fn byte(self) -> u8 {
-        match self {
-            Transmitter::Available { .. } => 0,
-            Transmitter::Waiting { page, cancel_asked } => set(7, cancel_asked) | page,
+impl Enabled {
+    fn transmit_from_named_bits(byte: u8) -> Self {
+        Enabled {
+            page: byte & 3,
+            broadcasts: false,
+            cancel_asked: bit(byte, 7),
         }
+    }
+
+    fn receive_from_named_bits(byte: u8) -> Self {
+        Enabled {
+            broadcasts: bit(byte, 6),
+            ..Enabled::transmit_from_named_bits(byte)
+        }
+    }
+
+    /// Bytes 13 and 14, of the oldest; and 16 and 17 but for the bit that a second waits.
+    fn byte(self) -> u8 {
+        set(7, self.cancel_asked) | set(6, self.broadcasts) | self.page
     }
 }
 
-/// RI and byte 14 in one: RI = 1 has byte 14 zero.
-#[derive(Clone, Copy, Debug, PartialEq, Eq)]
-pub enum Receiver {
-    /// RI = 1.
-    Inhibited,
-    /// RI = 0.
-    Enabled {
-        page: u8,
-        broadcasts: bool,
-        cancel_asked: bool,
-    },
-}
+impl Queue {
+    /// Zero where nothing waits.
+    fn oldest_byte(&self) -> u8 {
+        self.oldest().map_or(0, Enabled::byte)
+    }
 
-impl Receiver {
-    fn byte(self) -> u8 {
-        match self {
-            Receiver::Inhibited => 0,
-            Receiver::Enabled {
-                page,
-                broadcasts,
-                cancel_asked,
-            } => set(7, cancel_asked) | set(6, broadcasts) | page,
-        }
+    /// Zero where no second waits.
+    fn second_byte(&self, waits: u8) -> u8 {
+        self.second()
+            .map_or(0, |enabled| enabled.byte() | set(waits, true))
     }
 }
 
@@ -208,8 +207,12 @@ pub struct Row {
     pub node_id: u8,
     pub por: bool,
     pub recon: bool,
-    pub transmitter: Transmitter,
-    pub receiver: Receiver,
+    pub transmit: Side,
+    pub receive: Side,
+    /// The TMA shown: of the oldest completion that is not cleared, where there is one.
+    pub tma: bool,
+    /// The TMA of the second completion that is not cleared.
+    pub stored_tma: bool,
     pub diagnostic: Diagnostic,
     pub mask: Mask,
     pub configuration: Configuration,
@@ -229,10 +232,10 @@ impl Row {
             node_id: 0,
             por: true,
             recon: false,
-            transmitter: Transmitter::Available {
-                acknowledged: false,
-            },
-            receiver: Receiver::Inhibited,
+            transmit: Side::default(),
+            receive: Side::default(),
+            tma: false,
+            stored_tma: false,
             diagnostic: Diagnostic::default(),
             mask: Mask::default(),
             configuration: Configuration::DEFAULT,
@@ -254,18 +257,38 @@ impl Row {
         self.awake() && self.configuration.txen
     }
 
+    pub fn chaining(&self) -> bool {
+        self.configuration.cchen
+    }
+
     pub fn ta(&self) -> bool {
-        matches!(self.transmitter, Transmitter::Available { .. })
+        self.transmit.idle()
     }
 
     pub fn ri(&self) -> bool {
-        self.receiver == Receiver::Inhibited
+        self.receive.idle()
     }
 
-    /// The status register.
-    pub fn status(&self) -> u8 {
-        let tma = self.transmitter == Transmitter::Available { acknowledged: true };
-        set(7, self.ri()) | set(4, self.por) | set(2, self.recon) | set(1, tma) | set(0, self.ta())
+    /// Byte 3, which is the same with chaining and without.
+    fn status(&self) -> u8 {
+        set(7, self.ri()) | self.status_in_both() | set(0, self.ta())
+    }
+
+    /// What a read of register 0 gives: with chaining TRI and TTA stand where the mask bits are,
+    /// and RI and TA at bits 6 and 5.
+    pub fn status_read(&self) -> u8 {
+        if !self.chaining() {
+            return self.status();
+        }
+        set(7, self.receive.completed())
+            | set(6, self.ri())
+            | set(5, self.ta())
+            | self.status_in_both()
+            | set(0, self.transmit.completed())
+    }
+
+    fn status_in_both(&self) -> u8 {
+        set(4, self.por) | set(2, self.recon) | set(1, self.tma)
     }
 
     /// The 64 register bytes of the row.
@@ -285,9 +308,13 @@ impl Row {
             pointer_high,
             pointer_low,
             self.mode.byte(),
-            self.transmitter.byte(),
-            self.receiver.byte(),
+            self.transmit.queue.oldest_byte(),
+            self.receive.queue.oldest_byte(),
             u8::from(self.long_packets),
+            self.transmit.queue.second_byte(SECOND_TRANSMIT),
+            self.receive.queue.second_byte(SECOND_RECEIVE),
+            set(7, self.stored_tma) | self.transmit.uncleared,
+            self.receive.uncleared,
         ];
         let mut registers = [0; REGISTERS];
         registers[..named.len()].copy_from_slice(&named);
@@ -298,40 +325,44 @@ impl Row {
         let registers: &[u8; REGISTERS] = bytes.get(..REGISTERS)?.try_into().ok()?;
         let ram: [u8; RAM] = bytes.get(REGISTERS..)?.try_into().ok()?;
         let row = Row::from_named_bits(registers, ram);
-        (row.registers() == *registers && row.enabled_pages_fit()).then_some(row)
+        let holds =
+            row.registers() == *registers && row.enabled_pages_fit() && row.completions_fit();
+        holds.then_some(row)
     }
 
-    /// The register bytes by their numbers in document 01.
+    /// The register bytes by their numbers in document 01. Where TA or RI is 1, a second that waits
+    /// moves up, and the bytes do not come back as they were.
     fn from_named_bits(registers: &[u8; REGISTERS], ram: [u8; RAM]) -> Row {
-        let [status, transmit, receive] = [registers[3], registers[13], registers[14]];
-        let transmitter = if bit(status, 0) {
-            Transmitter::Available {
-                acknowledged: bit(status, 1),
-            }
-        } else {
-            Transmitter::Waiting {
-                page: transmit & 3,
-                cancel_asked: bit(transmit, 7),
-            }
-        };
-        let receiver = if bit(status, 7) {
-            Receiver::Inhibited
-        } else {
-            Receiver::Enabled {
-                page: receive & 3,
-                broadcasts: bit(receive, 6),
-                cancel_asked: bit(receive, 7),
-            }
-        };
+        let status = registers[3];
+        let [transmit, receive] = [registers[13], registers[14]];
+        let [second_transmit, second_receive] = [registers[16], registers[17]];
+        let transmits = Queue::of(
+            (!bit(status, 0)).then(|| Enabled::transmit_from_named_bits(transmit)),
+            bit(second_transmit, SECOND_TRANSMIT)
+                .then(|| Enabled::transmit_from_named_bits(second_transmit)),
+        );
+        let receives = Queue::of(
+            (!bit(status, 7)).then(|| Enabled::receive_from_named_bits(receive)),
+            bit(second_receive, SECOND_RECEIVE)
+                .then(|| Enabled::receive_from_named_bits(second_receive)),
+        );
         Row {
             node_id: registers[2],
             por: bit(status, 4),
             recon: bit(status, 2),
-            transmitter,
-            receiver,
+            transmit: Side {
+                queue: transmits,
+                uncleared: registers[18] & 3,
+            },
+            receive: Side {
+                queue: receives,
+                uncleared: registers[19] & 3,
+            },
+            tma: bit(status, 1),
+            stored_tma: bit(registers[18], 7),
             diagnostic: Diagnostic::from_named_bits(registers[4]),
             mask: Mask::from_named_bits(registers[5]),
-            configuration: Configuration::from_named_bits(registers[6]),
+            configuration: Configuration::from_byte(registers[6]),
             setup: registers[7] & 7,
             tentative_id: registers[8],
             nid: registers[9],
@@ -344,10 +375,22 @@ impl Row {
 
     /// "with long packets 1, an enabled page (TA = 0, RI = 0) is even": each by itself.
     fn enabled_pages_fit(&self) -> bool {
-        let transmit_odd =
-            matches!(self.transmitter, Transmitter::Waiting { page, .. } if page % 2 == 1);
-        let receive_odd = matches!(self.receiver, Receiver::Enabled { page, .. } if page % 2 == 1);
-        !self.long_packets || !transmit_odd && !receive_odd
+        let [transmits, receives] = [self.transmit, self.receive].map(|side| side.queue);
+        let mut enabled = transmits.waiting().chain(receives.waiting());
+        !self.long_packets || enabled.all(|enabled| enabled.page % 2 == 0)
+    }
+
+    /// A second Enable and completions only with chaining; at most two completions, and only the
+    /// second has a TMA stored; TMA only with TTA or with TA.
+    fn completions_fit(&self) -> bool {
+        let fits = |side: Side| {
+            let unused = side.queue.second().is_none() && side.uncleared == 0;
+            side.uncleared <= MOST_UNCLEARED && (self.chaining() || unused)
+        };
+        fits(self.transmit)
+            && fits(self.receive)
+            && (!self.stored_tma || self.transmit.uncleared == MOST_UNCLEARED)
+            && (!self.tma || self.transmit.completed() || self.ta())
     }
 }
 

@@ -1,8 +1,7 @@
-//! Document 01, "Registers": the calls on one card, and what they do to the line.
+//! Document 01, "Registers", with request C-11: the calls on one card, and what they do to the line.
 
-use crate::model::{
-    bit, Configuration, Diagnostic, Mask, Mode, Network, Phase, Receiver, Row, Transmitter, RAM,
-};
+use crate::model::{bit, Configuration, Diagnostic, Mask, Mode, Network, Phase, Row, RAM};
+use crate::queue::Side;
 use crate::refusal::Refusal;
 
 /// What a register number reaches, register 7 by its sub-address.
@@ -19,7 +18,7 @@ enum Register {
     Setup,
 }
 
-/// The twenty legal commands.
+/// The twenty legal commands, and the two Clears that a row with chaining takes beside them.
 #[derive(Clone, Copy, Debug, PartialEq, Eq)]
 pub enum Command {
     DisableTransmitter,
@@ -28,14 +27,19 @@ pub enum Command {
     EnableReceive { page: u8, broadcasts: bool },
     LongPackets(bool),
     ClearFlags { por: bool, recon: bool },
+    ClearTransmitInterrupt,
+    ClearReceiveInterrupt,
 }
 
 impl Command {
-    pub fn from_byte(byte: u8) -> Option<Command> {
+    pub fn from_byte(byte: u8, chaining: bool) -> Option<Command> {
         let page = 2 * u8::from(bit(byte, 3)) + u8::from(bit(byte, 5));
         // The low three bits say the kind; beside them each kind has free bits of its own, and
         // all others are 0.
         let (command, free) = match byte & 7 {
+            0 if !chaining => return None,
+            0 if bit(byte, 3) => (Command::ClearReceiveInterrupt, 0x08),
+            0 => (Command::ClearTransmitInterrupt, 0x00),
             1 => (Command::DisableTransmitter, 0x00),
             2 => (Command::DisableReceiver, 0x00),
             3 => (Command::EnableTransmit { page }, 0x28),
@@ -78,7 +82,7 @@ impl Row {
 
     fn read(&mut self, register: Register) -> Result<u8, Refusal> {
         match register {
-            Register::StatusOrMask => Ok(self.status()),
+            Register::StatusOrMask => Ok(self.status_read()),
             Register::DiagnosticOrCommand => Ok(std::mem::take(&mut self.diagnostic).byte()),
             Register::PointerHigh => {
                 let [pointer_high, _] = self.pointer.to_be_bytes();
@@ -116,7 +120,8 @@ impl Row {
         match register {
             Register::StatusOrMask => self.mask = Mask::from_byte(value).ok_or(Refusal::Value)?,
             Register::DiagnosticOrCommand => {
-                self.command(Command::from_byte(value).ok_or(Refusal::Value)?)?;
+                let command = Command::from_byte(value, self.chaining());
+                self.command(command.ok_or(Refusal::Value)?)?;
             }
             Register::PointerHigh => self.mode = Mode::from_byte(value).ok_or(Refusal::Value)?,
             Register::PointerLow => {
@@ -125,7 +130,7 @@ impl Row {
             Register::Data if self.mode.rddata => return Err(Refusal::Direction),
             Register::Data => *self.data_byte() = value,
             Register::Configuration => {
-                self.configure(Configuration::from_byte(value).ok_or(Refusal::Value)?);
+                self.configure(Configuration::from_byte(value))?;
             }
             Register::TentativeId => self.tentative_id = value,
             Register::NodeId if self.on_line() => return Err(Refusal::Online),
@@ -136,20 +141,30 @@ impl Row {
         Ok(())
     }
 
-    /// Every write with RESET = 1 resets, also where RESET was set before.
-    fn configure(&mut self, configuration: Configuration) {
+    /// Every write with RESET = 1 resets, also where RESET was set before. CCHEN changes only with
+    /// nothing waiting, whatever RESET is; what is not cleared then is dropped.
+    fn configure(&mut self, configuration: Configuration) -> Result<(), Refusal> {
+        if configuration.cchen != self.chaining() {
+            if !self.ta() || !self.ri() {
+                return Err(Refusal::Busy);
+            }
+            self.transmit.uncleared = 0;
+            self.receive.uncleared = 0;
+            self.stored_tma = false;
+        }
         self.configuration = configuration;
         if configuration.reset {
             self.por = true;
             self.recon = false;
-            self.transmitter = Transmitter::Available {
-                acknowledged: false,
-            };
-            self.receiver = Receiver::Inhibited;
+            self.transmit = Side::default();
+            self.receive = Side::default();
+            self.tma = false;
+            self.stored_tma = false;
             self.diagnostic = Diagnostic::default();
             self.mask = Mask::default();
             self.long_packets = false;
         }
+        Ok(())
     }
 
     fn command(&mut self, command: Command) -> Result<(), Refusal> {
@@ -157,30 +172,17 @@ impl Row {
             return Err(Refusal::NotReady);
         }
         match command {
-            Command::DisableTransmitter => {
-                if let Transmitter::Waiting { cancel_asked, .. } = &mut self.transmitter {
-                    *cancel_asked = true;
-                }
-            }
-            Command::DisableReceiver => {
-                if let Receiver::Enabled { cancel_asked, .. } = &mut self.receiver {
-                    *cancel_asked = true;
-                }
-            }
+            Command::DisableTransmitter => self.transmit.disable(),
+            Command::DisableReceiver => self.receive.disable(),
             Command::EnableTransmit { page } => {
-                self.may_enable(self.ta(), page)?;
-                self.transmitter = Transmitter::Waiting {
-                    page,
-                    cancel_asked: false,
-                };
+                self.may_enable(self.transmit, page)?;
+                // TMA stays where it is that of a completion.
+                self.tma &= self.transmit.completed();
+                self.transmit.enable(page, false);
             }
             Command::EnableReceive { page, broadcasts } => {
-                self.may_enable(self.ri(), page)?;
-                self.receiver = Receiver::Enabled {
-                    page,
-                    broadcasts,
-                    cancel_asked: false,
-                };
+                self.may_enable(self.receive, page)?;
+                self.receive.enable(page, broadcasts);
             }
             Command::LongPackets(_) if !self.ta() || !self.ri() => return Err(Refusal::Busy),
             Command::LongPackets(long) => self.long_packets = long,
@@ -188,13 +190,20 @@ impl Row {
                 self.por &= !por;
                 self.recon &= !recon;
             }
+            Command::ClearTransmitInterrupt if !self.transmit.completed() => {}
+            Command::ClearTransmitInterrupt => {
+                self.transmit.clear();
+                // None is stored where there was one completion.
+                self.tma = std::mem::take(&mut self.stored_tma);
+            }
+            Command::ClearReceiveInterrupt => self.receive.clear(),
         }
         Ok(())
     }
 
     /// BUSY comes before PAGE; f = 1 is the odd page.
-    fn may_enable(&self, idle: bool, page: u8) -> Result<(), Refusal> {
-        if !idle {
+    fn may_enable(&self, side: Side, page: u8) -> Result<(), Refusal> {
+        if side.full(self.chaining()) {
             return Err(Refusal::Busy);
         }
         if page % 2 == 1 && self.long_packets {
@@ -203,11 +212,17 @@ impl Row {
         Ok(())
     }
 
+    /// The mask bits of RI and TA are those of TRI and TTA with chaining.
     fn interrupt(&self) -> bool {
+        let (receive, transmit) = if self.chaining() {
+            (self.receive.completed(), self.transmit.completed())
+        } else {
+            (self.ri(), self.ta())
+        };
         self.por
-            || self.mask.ri && self.ri()
+            || self.mask.ri && receive
             || self.mask.recon && self.recon
-            || self.mask.ta && self.ta()
+            || self.mask.ta && transmit
     }
 }
 

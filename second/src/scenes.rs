@@ -1,9 +1,11 @@
 //! The scenes a campaign is made of. Each looks at the network as it stands and makes some calls;
 //! which scene comes, and what it does, the seed decides.
 
+mod queues;
+
 use crate::comparison::Comparison;
 use crate::material::{self, WIDE};
-use crate::model::{Network, Phase, Row, HEADER, MOST_ROWS, PAGE, RAM, REGISTERS, ROW};
+use crate::model::{Network, Phase, Row, CHAINING, HEADER, MOST_ROWS, PAGE, RAM, REGISTERS, ROW};
 use crate::prompt::{hex_text, CAPACITY, MOST_ROOM};
 use crate::rng::Rng;
 use crate::tally::COMMANDS;
@@ -39,7 +41,7 @@ impl<'a> Player<'a> {
     }
 
     fn scene(&mut self) -> Played {
-        let weights = [3, 4, 4, 3, 3, 18, 8, 4, 7, 8, 6, 4, 4, 5, 3];
+        let weights = [3, 4, 4, 3, 3, 16, 8, 4, 7, 7, 6, 4, 9, 5, 3, 24];
         match self.rng.weighted(&weights) {
             0 => self.new_network(),
             1 => self.fresh_of_any_size(),
@@ -55,7 +57,8 @@ impl<'a> Player<'a> {
             11 => self.page_readings(),
             12 => self.twins_and_tentative_ids(),
             13 => self.lines_not_understood(),
-            _ => self.looks_at_bytes(),
+            14 => self.looks_at_bytes(),
+            _ => self.queues(),
         }
     }
 
@@ -111,6 +114,22 @@ impl<'a> Player<'a> {
         (0..network.rows.len())
             .filter(|row| network.rows[*row].on_line())
             .nth(nth)
+    }
+
+    /// A row with chaining, where there is one.
+    fn some_row_chaining(&mut self) -> Option<usize> {
+        let first = self.some_row();
+        let network = self.both.network()?;
+        let rows = network.rows.len();
+        (first..first + rows)
+            .map(|row| row % rows)
+            .find(|row| network.rows[*row].chaining())
+    }
+
+    /// Writes a configuration, with CCHEN as the row has it.
+    fn configure(&mut self, row: usize, configuration: u8) -> Played {
+        let chaining = self.row(row).is_some_and(Row::chaining);
+        self.write(row, 6, material::with_chaining(configuration, chaining))
     }
 
     /// A row number that may be past the rows.
@@ -259,7 +278,8 @@ impl<'a> Player<'a> {
         }
         for row in 0..self.rows() {
             let id = material::nearby_id(&mut self.rng);
-            self.write(row, 6, 0x19)?;
+            let chaining = self.rng.pick(&[0x00, 0x40]);
+            self.write(row, 6, 0x19 | chaining)?;
             self.write(row, 7, id)?;
             if self.rng.one_in(3) {
                 self.write(row, 1, 0x0D)?;
@@ -268,7 +288,7 @@ impl<'a> Player<'a> {
                 self.enable_receive(row)?;
             }
             let configuration = self.rng.pick(&[0x38, 0x38, 0x38, 0x38, 0x39, 0x18, 0x98]);
-            self.write(row, 6, configuration)?;
+            self.write(row, 6, configuration | chaining)?;
         }
         if self.rng.flag() {
             self.step()?;
@@ -291,7 +311,7 @@ impl<'a> Player<'a> {
                 id = material::nearby_id(&mut self.rng);
             }
             let registers = material::registers(&mut self.rng, id);
-            self.poke(Network::length_for(row), &registers[..16])?;
+            self.poke(Network::length_for(row), &registers[..CHAINING.end])?;
         }
         if let Some(holder) = self.some_row_on_line() {
             let phase = self.rng.below(3) as u8;
@@ -448,6 +468,15 @@ impl<'a> Player<'a> {
 
     /// Receivers that may wait, a packet, and the token until the sender has had it.
     fn packet_tried(&mut self, sender: usize) -> Played {
+        self.receivers()?;
+        self.waiting_packet(sender)?;
+        if self.rng.one_in(8) {
+            self.flags_and_cancels(sender)?;
+        }
+        self.turn_of(sender)
+    }
+
+    fn receivers(&mut self) -> Played {
         if !self.settled() && !self.rng.one_in(8) {
             self.settle()?;
         }
@@ -457,10 +486,11 @@ impl<'a> Player<'a> {
                 self.enable_receive(row)?;
             }
         }
-        self.waiting_packet(sender)?;
-        if self.rng.one_in(8) {
-            self.flags_and_cancels(sender)?;
-        }
+        Ok(())
+    }
+
+    /// Steps until the sender has had its turn, where it comes soon.
+    fn turn_of(&mut self, sender: usize) -> Played {
         for _ in 0..2 * self.on_line_count().min(6) + 1 {
             let at_the_token = self.phase() == Some(Phase::Taken { holder: sender });
             if at_the_token && self.rng.one_in(3) {
@@ -483,7 +513,8 @@ impl<'a> Player<'a> {
 
     fn flags_and_cancels(&mut self, row: usize) -> Played {
         let command = self.rng.pick(&[
-            0x01, 0x01, 0x02, 0x02, 0x05, 0x0D, 0x0D, 0x06, 0x0E, 0x0E, 0x16, 0x1E,
+            0x01, 0x01, 0x02, 0x02, 0x05, 0x05, 0x0D, 0x0D, 0x06, 0x0E, 0x0E, 0x16, 0x1E, 0x00,
+            0x08,
         ]);
         self.write(row, 1, command)
     }
@@ -639,28 +670,40 @@ impl<'a> Player<'a> {
     /// (TENTID), while the token goes round.
     fn twins_and_tentative_ids(&mut self) -> Played {
         self.ready()?;
-        let (Some(original), twin) = (self.some_row_on_line(), self.some_row()) else {
+        let Some(original) = self.some_row_on_line() else {
             return Ok(());
         };
+        let any = self.some_row();
+        let chaining = self.some_row_chaining().unwrap_or(any);
+        let twin = self.rng.pick(&[any, chaining]);
         let id = self.row(original).map_or(0, |row| row.node_id);
         if twin != original {
-            self.write(twin, 6, 0x19)?;
+            let reset = self.rng.flag();
+            if reset {
+                self.configure(twin, 0x99)?;
+            }
+            self.configure(twin, 0x19)?;
             if self.rng.one_in(3) {
                 // On line but for its ID, so that the write of the ID itself is refused.
                 self.write(twin, 7, 0)?;
-                self.write(twin, 6, 0x39)?;
+                self.configure(twin, 0x39)?;
             }
             self.write(twin, 7, id)?;
-            self.enable_receive(twin)?;
-            if self.rng.one_in(3) {
-                self.write(twin, 6, 0x39)?;
+            if !reset {
+                self.enable_receive(twin)?;
+            }
+            match self.rng.weighted(&[2, 3, 2]) {
+                0 => self.configure(twin, 0x39)?,
+                // CCHEN is to change with the write that would put it on line.
+                1 => self.change_chaining(twin, 0x39)?,
+                _ => {}
             }
         }
         let asking = self.some_row();
         let txen = self
             .row(asking)
             .map_or(0, |row| row.configuration.byte() & 0x20);
-        self.write(asking, 6, 0x18 | txen)?;
+        self.configure(asking, 0x18 | txen)?;
         self.write(asking, 7, id)?;
         self.settle()?;
         for _ in 0..self.rng.between(2, 8) {
@@ -681,7 +724,7 @@ impl<'a> Player<'a> {
                 let stays = self.some_row_on_line();
                 for row in 0..self.rows().min(6) {
                     if Some(row) != stays {
-                        self.write(row, 6, 0x18)?;
+                        self.configure(row, 0x18)?;
                     }
                 }
                 self.any_lap()?;
@@ -705,32 +748,36 @@ impl<'a> Player<'a> {
         Ok(())
     }
 
-    /// Some bytes changed, some calls, and the bytes put back, a few times.
     fn damage(&mut self) -> Played {
         self.ready()?;
         for _ in 0..self.rng.between(1, 4) {
-            let (at, new) = self.changed_bytes();
-            let place = at..at + new.len();
-            let Some(old) = self.both.lent().image().get(place).map(<[u8]>::to_vec) else {
-                return Ok(());
-            };
-            self.poke(at, &new)?;
-            self.call("check")?;
-            for _ in 0..self.rng.below(4) {
-                self.any_call()?;
-            }
-            self.poke(at, &old)?;
+            let change = self.changed_bytes();
+            self.damaged_by(change)?;
         }
         self.call("check")
+    }
+
+    /// Some bytes changed, some calls, and the bytes put back.
+    fn damaged_by(&mut self, (at, new): (usize, Vec<u8>)) -> Played {
+        let place = at..at + new.len();
+        let Some(old) = self.both.lent().image().get(place).map(<[u8]>::to_vec) else {
+            return Ok(());
+        };
+        self.poke(at, &new)?;
+        self.call("check")?;
+        for _ in 0..self.rng.below(4) {
+            self.any_call()?;
+        }
+        self.poke(at, &old)
     }
 
     /// Where bytes are to be changed, and to what.
     fn changed_bytes(&mut self) -> (usize, Vec<u8>) {
         let row = Network::length_for(self.some_row());
-        let at = match self.rng.weighted(&[4, 8, 3, 1, 3, 2, 2]) {
+        let at = match self.rng.weighted(&[4, 8, 4, 1, 3, 2, 2, 2]) {
             0 => self.rng.below(HEADER),
-            1 => row + self.rng.below(16),
-            2 => row + self.rng.pick(&[16, 17, 31, 32, 33, 62, 63]),
+            1 => row + self.rng.below(CHAINING.start),
+            2 => row + self.rng.between(CHAINING.start, REGISTERS - 1),
             3 => row + REGISTERS + self.rng.below(RAM),
             // Pages that are enabled or not, odd ones with long packets too.
             4 => {
@@ -742,6 +789,12 @@ impl<'a> Player<'a> {
             5 => {
                 let twin = self.some_row_on_line().and_then(|twin| self.row(twin));
                 return (row + 2, vec![twin.map_or(0, |twin| twin.node_id)]);
+            }
+            // TMA set or not, with TA or without.
+            6 => {
+                let status = self.both.lent().image().get(row + 3).copied();
+                let flipped = status.unwrap_or(0) ^ self.rng.pick(&[0x02, 0x03]);
+                return (row + 3, vec![flipped]);
             }
             // A holder that may be off line or past the rows.
             _ => {

@@ -1,4 +1,5 @@
-//! Every value of a byte, where document 01's rules say how many of them are taken.
+//! Every value of a byte, where the rules of document 01 and of request C-11 say how many of them
+//! are taken.
 //!
 //! The network has one row. Its byte b is at `ROW + b`, and page 0 of its RAM at `RAM`.
 
@@ -61,26 +62,46 @@ fn count(
     }
 }
 
-/// Writes to a row on line with ID 07, whose RI, POR, RECON and TA are set; register 7 by its four
-/// sub-addresses, off line.
+/// Writes to an awake row with ID 07, by its status, its configuration and more; RI, POR, RECON and
+/// TA are set where the status is 95.
 pub fn registers(peer: &mut dyn Peer) -> Result<(), String> {
-    const TAKEN: [(u8, u8, usize); 11] = [
-        (0, 0x38, 16),
-        (1, 0x38, 20),
-        (2, 0x38, 16),
-        (3, 0x38, 256),
-        (4, 0x38, 256),
-        (5, 0x38, 0),
-        (6, 0x38, 128),
-        (7, 0x18, 256),
-        (7, 0x19, 256),
-        (7, 0x1A, 8),
-        (7, 0x1B, 0),
+    const ON_LINE: &[Change] = &[(3, 0x95), (6, 0x38)];
+    const CHAINING: &[Change] = &[(3, 0x95), (6, 0x78)];
+    const ONE_EACH: &[Change] = &[(3, 0x14), (6, 0x38)];
+    const CHAINING_ONE_EACH: &[Change] = &[(3, 0x14), (6, 0x78)];
+    const CHAINING_TWO_EACH: &[Change] = &[(3, 0x14), (6, 0x78), (16, 0x40), (17, 0x20)];
+    const TAKEN: [(u8, &[Change], usize); 22] = [
+        (0, ON_LINE, 16),
+        (1, ON_LINE, 20),
+        (2, ON_LINE, 16),
+        (3, ON_LINE, 256),
+        (4, ON_LINE, 256),
+        (5, ON_LINE, 0),
+        (6, ON_LINE, 256),
+        (7, &[(3, 0x95), (6, 0x18)], 256),
+        (7, &[(3, 0x95), (6, 0x19)], 256),
+        (7, &[(3, 0x95), (6, 0x1A)], 8),
+        (7, &[(3, 0x95), (6, 0x1B)], 0),
+        (0, CHAINING, 16),
+        (1, CHAINING, 22),
+        (6, CHAINING, 256),
+        // No Enable, nor 05 or 0D; with chaining a second Enable and the Clears, and no third.
+        (1, ONE_EACH, 6),
+        (1, CHAINING_ONE_EACH, 20),
+        (1, CHAINING_TWO_EACH, 8),
+        // Only the even pages with long packets.
+        (1, &[(3, 0x14), (6, 0x78), (15, 1)], 14),
+        // CCHEN stays as it is with TA = 0, and with RI = 0.
+        (6, &[(3, 0x94), (6, 0x38)], 128),
+        (6, &[(3, 0x15), (6, 0x38)], 128),
+        (6, &[(3, 0x94), (6, 0x78)], 128),
+        (6, &[(3, 0x15), (6, 0x78)], 128),
     ];
-    for (register, configuration, expected) in TAKEN {
-        let what = format!("register {register} with configuration {configuration:02X}");
+    for (register, changes, expected) in TAKEN {
+        let what = format!("register {register} of a row with the changes {changes:02X?}");
         count(peer, &what, expected, |value| {
-            let mut lines = card(&[(2, 0x07), (3, 0x95), (6, configuration)]);
+            let mut lines = card(&[(2, 0x07)]);
+            lines.extend(changes.iter().map(|(byte, value)| set(*byte, *value)));
             lines.push(format!("write 0 {register} {value}"));
             lines
         })?;
@@ -89,16 +110,17 @@ pub fn registers(peer: &mut dyn Peer) -> Result<(), String> {
 }
 
 /// The bytes of a row: of a fresh one, of one with TA and RI 0, of the same with long packets 1, and
-/// of the same with an odd page to send or to fill.
+/// of the same with an odd page to send or to fill; then of rows with chaining, which wait once or
+/// twice, or have completions that are not cleared.
 pub fn forms(peer: &mut dyn Peer) -> Result<(), String> {
-    const FRESH: [Fitting; 20] = [
+    const FRESH: &[Fitting] = &[
         (0, 1),
         (1, 1),
         (2, 256),
         (3, 24),
         (4, 32),
         (5, 16),
-        (6, 128),
+        (6, 256),
         (7, 8),
         (8, 256),
         (9, 256),
@@ -109,19 +131,75 @@ pub fn forms(peer: &mut dyn Peer) -> Result<(), String> {
         (14, 1),
         (15, 2),
         (16, 1),
+        (17, 1),
+        (18, 1),
+        (19, 1),
+        (20, 1),
+        (31, 1),
+        (32, 1),
         (63, 1),
         (64, 256),
         (1087, 256),
     ];
-    const ENABLED: [Fitting; 4] = [(3, 24), (13, 8), (14, 16), (15, 2)];
-    const LONG: [Fitting; 2] = [(13, 4), (14, 8)];
-    const ODD: [Fitting; 2] = [(3, 0), (15, 1)];
-    let cards: [(&[Change], &[Fitting]); 5] = [
-        (&[], &FRESH),
-        (&[(3, 0x10)], &ENABLED),
-        (&[(3, 0x10), (15, 1)], &LONG),
-        (&[(3, 0x10), (15, 1), (13, 0x01)], &ODD),
-        (&[(3, 0x10), (15, 1), (14, 0x41)], &ODD),
+    const ENABLED: &[Fitting] = &[(3, 24), (6, 256), (13, 8), (14, 16), (15, 2)];
+    const ODD: &[Fitting] = &[(3, 0), (15, 1)];
+    const IDLE_CHAINING: &[Fitting] = &[
+        (3, 24),
+        (6, 256),
+        (13, 1),
+        (14, 1),
+        (16, 1),
+        (17, 1),
+        (18, 4),
+        (19, 3),
+        (20, 1),
+        (31, 1),
+        (32, 1),
+        (63, 1),
+    ];
+    const ENABLED_CHAINING: &[Fitting] = &[
+        (3, 24),
+        (6, 256),
+        (13, 8),
+        (14, 16),
+        (15, 2),
+        (16, 9),
+        (17, 17),
+        (18, 4),
+        (19, 3),
+        (20, 1),
+    ];
+    const SECOND_ODD: &[Fitting] = &[(15, 1)];
+    let cards: [(&[Change], &[Fitting]); 17] = [
+        (&[], FRESH),
+        (&[(3, 0x10)], ENABLED),
+        (&[(3, 0x10)], &[(16, 1), (17, 1), (18, 1), (19, 1)]),
+        (&[(3, 0x10), (15, 1)], &[(13, 4), (14, 8)]),
+        (&[(3, 0x10), (15, 1), (13, 0x01)], ODD),
+        (&[(3, 0x10), (15, 1), (14, 0x41)], ODD),
+        (&[(6, 0x58)], IDLE_CHAINING),
+        // TMA also with TTA; completions only with CCHEN.
+        (&[(6, 0x58), (18, 0x01)], &[(3, 32), (6, 128), (18, 4)]),
+        (&[(6, 0x58), (18, 0x82)], &[(3, 32), (6, 128), (18, 4)]),
+        (&[(6, 0x58), (19, 0x01)], &[(3, 24), (6, 128), (19, 3)]),
+        (&[(6, 0x58), (3, 0x10)], ENABLED_CHAINING),
+        // TMA = 1 with TA = 0 needs a completion.
+        (&[(6, 0x58), (3, 0x12), (18, 0x01)], &[(3, 32), (18, 3)]),
+        (
+            &[(6, 0x58), (3, 0x10), (15, 1)],
+            &[(13, 4), (14, 8), (16, 5), (17, 9)],
+        ),
+        // A second only with CCHEN, and with TA, or RI, 0.
+        (
+            &[(6, 0x58), (3, 0x10), (16, 0x40)],
+            &[(3, 8), (6, 128), (13, 8), (15, 2), (16, 9)],
+        ),
+        (
+            &[(6, 0x58), (3, 0x10), (17, 0x20)],
+            &[(3, 12), (6, 128), (14, 16), (15, 2), (17, 17)],
+        ),
+        (&[(6, 0x58), (3, 0x10), (16, 0x41)], SECOND_ODD),
+        (&[(6, 0x58), (3, 0x10), (17, 0x61)], SECOND_ODD),
     ];
     for (changes, bytes) in cards {
         for (byte, expected) in bytes {

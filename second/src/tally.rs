@@ -2,6 +2,8 @@
 
 use std::collections::BTreeMap;
 
+use crate::sights;
+
 /// The words of the prompt that are compared, each with the answers it can give.
 const ANSWERS: [(&str, &[&str]); 15] = [
     ("size", &["DONE", "ERROR"]),
@@ -140,15 +142,6 @@ const ANY_FAULT: [&str; 6] = [
     "HELD UNACKNOWLEDGED",
 ];
 
-/// Outcomes of a packet that is well formed, short or long.
-const PACKET_ANSWERS: [&str; 5] = [
-    "HELD BROADCAST",
-    "HELD NOANSWER",
-    "HELD NAK",
-    "HELD DELIVERED",
-    "HELD UNACKNOWLEDGED",
-];
-
 /// The same, of a read by its register.
 const READ_ANSWERS: [(&str, &[&str]); 9] = [
     ("0", &["DONE"]),
@@ -179,7 +172,15 @@ const WRITE_ANSWERS: [(&str, &[&str]); 9] = [
     ("3", &["DONE", "REFUSED 4 VALUE"]),
     ("4", &["DONE", "REFUSED 4 VALUE", "REFUSED 6 DIRECTION"]),
     ("5", &["REFUSED 3 REGISTER"]),
-    ("6", &["DONE", "REFUSED 4 VALUE", "REFUSED 10 DUPLICATE"]),
+    (
+        "6",
+        &[
+            "DONE",
+            "REFUSED 4 VALUE",
+            "REFUSED 7 BUSY",
+            "REFUSED 10 DUPLICATE",
+        ],
+    ),
     (
         "7",
         &[
@@ -193,11 +194,14 @@ const WRITE_ANSWERS: [(&str, &[&str]); 9] = [
     ("above 7", &["REFUSED 3 REGISTER"]),
 ];
 
-/// The twenty legal command bytes.
-pub const COMMANDS: [u8; 20] = [
+/// The legal command bytes: twenty, and the two Clears.
+pub const COMMANDS: [u8; 22] = [
     0x01, 0x02, 0x03, 0x0B, 0x23, 0x2B, 0x04, 0x0C, 0x24, 0x2C, 0x84, 0x8C, 0xA4, 0xAC, 0x05, 0x0D,
-    0x06, 0x0E, 0x16, 0x1E,
+    0x06, 0x0E, 0x16, 0x1E, 0x00, 0x08,
 ];
+
+/// Clear Transmit Interrupt and Clear Receive Interrupt, which only a row with chaining takes.
+pub const CLEARS: [u8; 2] = [0x00, 0x08];
 
 /// Counts by what was asked and what was answered.
 #[derive(Default)]
@@ -207,32 +211,23 @@ pub struct Tally {
 }
 
 impl Tally {
-    pub fn record(&mut self, line: &[u8], answer: &str, packet_is_long: Option<bool>) {
-        let line = String::from_utf8_lossy(line);
-        let words: Vec<&str> = line.split(' ').collect();
+    pub fn record(&mut self, words: &[&str], answer: &str, sights: Vec<String>) {
         let word = ANSWERS
             .iter()
             .map(|(word, _)| *word)
             .find(|word| words.first() == Some(word));
         let kind = kind(word.unwrap_or("other"), answer);
         if kind != "ERROR" {
-            self.look_closer(&words, &kind, packet_is_long);
+            self.look_closer(words, &kind, sights);
         }
         count(&mut self.words, word.unwrap_or("other").to_string(), kind);
     }
 
-    fn look_closer(&mut self, words: &[&str], kind: &str, packet_is_long: Option<bool>) {
+    fn look_closer(&mut self, words: &[&str], kind: &str, sights: Vec<String>) {
         let mut note = |asked: String| count(&mut self.closer, asked, kind.to_string());
+        sights.into_iter().for_each(&mut note);
         match words {
-            ["step", fault] => {
-                note(format!("step, fault {}", capped(fault, 3)));
-                if let Some(long) = packet_is_long {
-                    note(format!(
-                        "step, {} packet",
-                        if long { "long" } else { "short" }
-                    ));
-                }
-            }
+            ["step", fault] => note(format!("step, fault {}", capped(fault, 3))),
             ["read", _, register] => note(format!("read, register {}", capped(register, 7))),
             ["write", _, register, value] => {
                 note(format!("write, register {}", capped(register, 7)));
@@ -270,7 +265,7 @@ fn print_table(counts: &BTreeMap<(String, String), u64>) {
     let mut lines: Vec<_> = counts.iter().collect();
     lines.sort_by_key(|((asked, answer), _)| (asked, refusal_number(answer), answer));
     for ((asked, answer), count) in lines {
-        println!("{asked:<26}{answer:<24}{count:>10}");
+        println!("{asked:<34}{answer:<24}{count:>10}");
     }
 }
 
@@ -329,18 +324,14 @@ fn can_come_closer() -> Vec<(String, String)> {
     for fault in ["0", "1", "2", "3"] {
         all.extend(keys("step, fault ", &[(fault, &ANY_FAULT)]));
     }
-    all.extend(keys(
-        "step, ",
-        &[
-            ("short packet", &PACKET_ANSWERS),
-            ("long packet", &PACKET_ANSWERS),
-        ],
-    ));
     all.extend(keys("read, register ", &READ_ANSWERS));
     all.extend(keys("write, register ", &WRITE_ANSWERS));
     for byte in COMMANDS {
         let mut answers = vec!["DONE", "REFUSED 5 NOTREADY"];
-        // Only Disable and Clear Flags find no card busy; the odd pages have f, bit 5.
+        if CLEARS.contains(&byte) {
+            answers.push("REFUSED 4 VALUE");
+        }
+        // Only Disable and the Clears find no card busy; the odd pages have f, bit 5.
         if matches!(byte & 7, 3..=5) {
             answers.push("REFUSED 7 BUSY");
         }
@@ -351,6 +342,9 @@ fn can_come_closer() -> Vec<(String, String)> {
             "",
             &[(command_name(byte).as_str(), answers.as_slice())],
         ));
+    }
+    for (sight, answers) in sights::can_come() {
+        all.extend(keys("", &[(sight.as_str(), answers)]));
     }
     all
 }

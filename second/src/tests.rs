@@ -1,9 +1,11 @@
-//! Values worked out by hand from document 01.
+//! Values worked out by hand from document 01, and from request C-11 in `tests/chaining.rs`.
+
+mod chaining;
 
 use crate::model::{Network, Row, PAGE, RAM};
 use crate::prompt::{fnv, hex_text, Prompt};
 use crate::registers::Command;
-use crate::tally::COMMANDS;
+use crate::tally::{CLEARS, COMMANDS};
 
 /// A prompt with the calls by name.
 struct Desk(Prompt);
@@ -200,38 +202,47 @@ fn counts_of_a_packet() {
 }
 
 #[test]
-fn twenty_commands() {
-    let legal: Vec<u8> = (0..=255)
-        .filter(|byte| Command::from_byte(*byte).is_some())
-        .collect();
-    let mut listed = COMMANDS;
+fn twenty_commands_and_two() {
+    let legal = |chaining| {
+        (0..=255)
+            .filter(|byte| Command::from_byte(*byte, chaining).is_some())
+            .collect::<Vec<u8>>()
+    };
+    let mut listed = COMMANDS.to_vec();
     listed.sort_unstable();
-    assert_eq!(legal, listed);
-    assert_eq!(
-        Command::from_byte(0x0B),
-        Some(Command::EnableTransmit { page: 2 })
-    );
-    assert_eq!(
-        Command::from_byte(0x2C),
-        Some(Command::EnableReceive {
-            page: 3,
-            broadcasts: false
-        })
-    );
-    assert_eq!(
-        Command::from_byte(0xA4),
-        Some(Command::EnableReceive {
-            page: 1,
-            broadcasts: true
-        })
-    );
-    assert_eq!(
-        Command::from_byte(0x16),
-        Some(Command::ClearFlags {
-            por: false,
-            recon: true
-        })
-    );
+    assert_eq!(legal(true), listed);
+    listed.retain(|byte| !CLEARS.contains(byte));
+    assert_eq!(listed.len(), 20);
+    assert_eq!(legal(false), listed);
+    let commands = [
+        (0x0B, Command::EnableTransmit { page: 2 }),
+        (
+            0x2C,
+            Command::EnableReceive {
+                page: 3,
+                broadcasts: false,
+            },
+        ),
+        (
+            0xA4,
+            Command::EnableReceive {
+                page: 1,
+                broadcasts: true,
+            },
+        ),
+        (
+            0x16,
+            Command::ClearFlags {
+                por: false,
+                recon: true,
+            },
+        ),
+        (0x00, Command::ClearTransmitInterrupt),
+        (0x08, Command::ClearReceiveInterrupt),
+    ];
+    for (byte, command) in commands {
+        assert_eq!(Command::from_byte(byte, true), Some(command));
+    }
 }
 
 #[test]
@@ -300,7 +311,7 @@ fn smallest_number_wins() {
     desk.write(0, 6, 0x39, 0);
     desk.write(0, 7, 7, 8);
     desk.write(0, 7, 40, 8);
-    desk.write(0, 6, 0x78, 4);
+    desk.write(0, 6, 0x178, 4);
     desk.gives("step 4", "REFUSED 4 VALUE");
     desk.gives("step 0", "RECOVERED 2");
     desk.gives("lap 0", "REFUSED 7 BUSY");
@@ -531,7 +542,7 @@ fn page_reader() {
 #[test]
 fn well_formed_or_not() {
     let row = Network::length_for(0);
-    let bad: [(usize, &[u8]); 19] = [
+    let bad: [(usize, &[u8]); 18] = [
         (0, &[0x42]),
         (2, &[2]),
         (3, &[2]),
@@ -544,7 +555,6 @@ fn well_formed_or_not() {
         (row + 3, &[0x12]),
         (row + 4, &[0x08]),
         (row + 5, &[0x10]),
-        (row + 6, &[0x78]),
         (row + 7, &[8]),
         (row + 10, &[4]),
         (row + 13, &[0x80]),
@@ -569,9 +579,10 @@ fn well_formed_or_not() {
             desk.gives(line, "REFUSED 1 SHAPE");
         }
     }
-    let good: [(usize, &[u8]); 5] = [
+    let good: [(usize, &[u8]); 6] = [
         (row + 5, &[8]),
         (row + 6, &[0x9B]),
+        (row + 6, &[0x78]),
         (row + 8, &[7, 7]),
         (4, &[1, 2]),
         (row + 100, &[1]),
