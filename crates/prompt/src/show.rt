@@ -3,18 +3,19 @@ ghost use Prim.Native.Nat.{_≤_};
 ghost use lib.ListN.{length};
 ghost use mathlib.Core.Path.{_≡_};
 ghost use Rattle.table.specs.Network.{rowStart, rows};
+use bits::flags::BROADCASTS;
+use bits::flags::POR;
+use bits::flags::RECON;
+use bits::flags::RI;
+use bits::flags::TA;
+use bits::flags::TMA;
 use print::gather::ROOM;
 use print::gather::columns;
 use print::gather::end;
 use print::gather::number;
 use print::gather::text;
-use registers::regs::BROADCASTS;
-use registers::regs::POR;
-use registers::regs::RECON;
-use registers::regs::RI;
+use queues::queues::Way;
 use registers::regs::Regs;
-use registers::regs::TA;
-use registers::regs::TMA;
 use table::network::LOST;
 use table::network::phase;
 use table::network::regs_at;
@@ -23,49 +24,75 @@ use table::network::wide;
 use words::words::part;
 
 // The name of a flag that is set, by its place here.
-fn flag(out: &mut [u8; ROOM], n: usize, set: u8, place: usize) -> usize {
-    if set == 0 {
+fn flag(out: &mut [u8; ROOM], n: usize, set: bool, place: usize) -> usize {
+    if !set {
         return n;
     }
-    text(out, n, part(b" RI\n POR\n RECON\n TMA\n TA", b'\n', place))
+    text(
+        out,
+        n,
+        part(b" RI\n POR\n RECON\n TMA\n TA\n TTA\n TRI", b'\n', place),
+    )
 }
 
-fn flags(out: &mut [u8; ROOM], n: usize, status: u8) -> usize {
-    let n = flag(out, n, status & RI, 0);
-    let n = flag(out, n, status & POR, 1);
-    let n = flag(out, n, status & RECON, 2);
-    let n = flag(out, n, status & TMA, 3);
-    flag(out, n, status & TA, 4)
+// TTA and TRI are a chaining row's: in another no end waits to be cleared.
+fn flags(out: &mut [u8; ROOM], n: usize, g: Regs) -> usize {
+    let n = flag(out, n, g.status & RI != 0, 0);
+    let n = flag(out, n, g.status & POR != 0, 1);
+    let n = flag(out, n, g.status & RECON != 0, 2);
+    let n = flag(out, n, g.status & TMA != 0, 3);
+    let n = flag(out, n, g.status & TA != 0, 4);
+    let n = flag(out, n, g.transmit.uncleared(), 5);
+    flag(out, n, g.receive.uncleared(), 6)
 }
 
 fn either(first: bool, x: u8, y: u8) -> u8 {
     if first { x } else { y }
 }
 
-// The digit of a page that waits, which is one of four.
-fn waiting(waits: bool, page: usize) -> u8 {
-    either(waits, b'0' + (page % 4) as u8, b'-')
+// The digit of a page, in the low bits of a waiting entry.
+fn page(entry: u8) -> u8 {
+    b'0' + entry % 4
 }
 
-// The columns LINE, TX and RX: on or off line, the page that waits to be sent, and the one that waits to be filled,
-// with B where broadcasts are wanted.
-fn cells(on: bool, transmit: u8, receive: u8, broadcasts: bool) -> [u8; 16] {
-    let mut cells = *b"  OFF   -    -  ";
+// B, where broadcasts are wanted.
+fn wanted(entry: u8) -> u8 {
+    either(entry & BROADCASTS != 0, b'B', b' ')
+}
+
+// The columns LINE, TX and RX: on or off line, the pages that wait to be sent, oldest first, and the oldest that waits
+// to be filled.
+fn cells(g: Regs) -> [u8; 15] {
+    let on = g.on_line();
+    let two = g.transmit.two(Way::Transmit);
+    let receiving = g.receiving();
+    let mut cells = *b"  OFF   -    - ";
     cells[3] = either(on, b'N', b'F');
     cells[4] = either(on, b' ', b'F');
-    cells[8] = transmit;
-    cells[13] = receive;
-    cells[14] = either(broadcasts, b'B', b' ');
+    cells[8] = either(g.transmitting(), page(g.transmit.oldest), b'-');
+    cells[9] = either(two, b',', b' ');
+    cells[10] = either(two, page(g.transmit.second), b' ');
+    cells[13] = either(receiving, page(g.receive.oldest), b'-');
+    cells[14] = either(receiving, wanted(g.receive.oldest), b' ');
     cells
 }
 
+// The rest of the column RX: a second page that waits to be filled.
+fn second_receive(out: &mut [u8; ROOM], n: usize, g: Regs) -> usize {
+    if !g.receive.two(Way::Receive) {
+        return text(out, n, b" ");
+    }
+    let mut cells = *b",  ";
+    cells[1] = page(g.receive.second);
+    cells[2] = wanted(g.receive.second);
+    text(out, n, &cells)
+}
+
 fn row(out: &mut [u8; ROOM], k: usize, g: Regs) {
-    let transmit = waiting(g.transmitting(), g.transmit_page());
-    let receive = waiting(g.receiving(), g.receive_page());
-    let broadcasts = g.receiving() & (g.receive & BROADCASTS != 0);
     let n = columns(out, 0, k, wide(g.id), wide(g.nid));
-    let n = text(out, n, &cells(g.on_line(), transmit, receive, broadcasts));
-    let n = flags(out, n, g.status);
+    let n = text(out, n, &cells(g));
+    let n = second_receive(out, n, g);
+    let n = flags(out, n, g);
     end(out, n);
 }
 
