@@ -1,6 +1,8 @@
 -- No second outcome fits a contract: crate by crate.
 pub mod Same
 pub mod Sixty
+pub mod Bits
+pub mod Queues
 pub mod Registers
 pub mod Card
 pub mod Table

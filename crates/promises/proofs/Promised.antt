@@ -6,12 +6,17 @@ use Rattle.table.proofs.Shaped.Alike.{bytes-rams}
 use Rattle.table.proofs.Access.Others.{read-only, read-header, write-only, reset-only, timer-only}
 use Rattle.line.proofs.Steps.StepBy.{frame-step}
 use Rattle.line.proofs.Promised.EveryRow.{step-moves}
+use Rattle.line.proofs.Change.Made.{row-fits}
+use Rattle.line.proofs.Steps.Stepped.{held-row}
+use Rattle.line.proofs.Promised.Left.{plain-left}
 use Rattle.line.proofs.Promised.TheHolder.{holder-left}
 use Rattle.line.proofs.Promised.Faults.{idle-fault}
 use Rattle.card.proofs.CardSums.{data-sizes}
 use Rattle.desk.proofs.Loads.Loaded.{load-refused}
 use Rattle.desk.proofs.Lapping.LapLeaves.{walk-refused, lap-refused}
 use Rattle.promises.specs.Promises.{RefusalsChangeNothing, NoOtherByte, OutcomesSay, IdleFaults, Sizes, OneOutcome}
+use Rattle.promises.proofs.Once.Bits.{bits-once}
+use Rattle.promises.proofs.Once.Queues.{queues-once}
 use Rattle.promises.proofs.Once.Registers.{registers-once}
 use Rattle.promises.proofs.Once.Card.{card-once}
 use Rattle.promises.proofs.Once.Table.{table-once}
@@ -46,7 +51,7 @@ no-other-byte = record {
 }
 
 pub outcomes-say : OutcomesSay
-outcomes-say net b s p = λ fault o. holder-left net p s (bytes-rams net s b) fault o
+outcomes-say net b s p = λ fault o e. let l = holder-left net p s (bytes-rams net s b) fault o e in (l, λ c. plain-left _ _ o (row-fits net _ s (held-row net s)) c l)
 
 pub idle-faults : IdleFaults
 idle-faults = idle-fault
@@ -55,4 +60,4 @@ pub sizes : Sizes
 sizes = data-sizes
 
 pub one-outcome : OneOutcome
-one-outcome = record { registers = registers-once; card = card-once; table = table-once; line = line-once; desk = desk-once; words = words-once }
+one-outcome = record { bits = bits-once; queues = queues-once; registers = registers-once; card = card-once; table = table-once; line = line-once; desk = desk-once; words = words-once }

@@ -2,14 +2,20 @@
 -- Assumes nothing.
 use mathlib.Core.Path.{_≡_, refl, sym, _∙_, ap}
 use mathlib.Core.Bool.{Bool, true, false, _&&_}
-use mathlib.Core.List.{List}
+use mathlib.Core.List.{List, [], _∷_}
 use Prim.Native.Nat.{ℕ, _≤_, _<_}
 use native.Mathlib.Omega.{arith}
-use lib.Dec.{eqb}
-use borrow.Author.Tests.{eqb-true, eq-eqb, ne-eqb}
+use lib.Dec.{eqb, ltb}
+use borrow.Author.Tests.{eqb-true, eq-eqb, ne-eqb, ltb-true}
 use Rattle.bits.specs.Words.{among}
-use Rattle.registers.specs.Layout.{at-status, at-diagnostic, at-nid, at-transmit, at-receive}
-use Rattle.bits.proofs.Words.Bools.{pick-of}
+use Rattle.registers.specs.Layout.{at-status, at-diagnostic, at-nid}
+use Rattle.registers.specs.Sides.{chaining}
+use Rattle.bits.proofs.Words.Bools.{and-left, and-right, pick-of}
+use Rattle.queues.specs.declared.queues.Queue.{Queue}
+use Rattle.registers.proofs.Values.Fits.{rules-fit}
+use Rattle.registers.proofs.Values.Ends.{received-ends, received-page}
+use Rattle.registers.proofs.Values.Unqueued.{unqueued-fit}
+use Rattle.line.proofs.Change.Made.{row-fits}
 use Rattle.card.specs.Row.{registerBytes}
 use Rattle.card.specs.Packets.{pageAt}
 use Rattle.table.specs.Network.{Bytes, rows, phase, holder, LOST, PASS, regsAt, onLineAt, isNode, shape}
@@ -20,7 +26,7 @@ use Rattle.table.proofs.Shaped.Alike.{bytes-rams}
 use Rattle.table.proofs.Access.Placed.{data-there, number-there}
 use Rattle.line.specs.declared.traffic.Outcome.the-variants.{Broadcast, Delivered}
 use Rattle.line.specs.Step.{step}
-use Rattle.line.specs.Outcomes.{sentPage, sentTo, addressee, stores, rowMoves}
+use Rattle.line.specs.Outcomes.{sentPage, sentTo, addressee, stores, holderBytes, rowMoves}
 use Rattle.line.proofs.Steps.Stepped.{held-row}
 use Rattle.line.proofs.Steps.StepBy.{sound-step}
 use Rattle.line.proofs.Promised.Bystanding.{fills}
@@ -34,16 +40,28 @@ use Rattle.promises.specs.Station.{Stored, RamKept, StoredOrKept, Delive
 beyond : (i a : ℕ) → registerBytes ≤ i → a < registerBytes → eqb i a ≡ false
 beyond i a h l = ne-eqb i a (λ e. omega (arith, e))
 
+abbrev inRegisters : List ℕ → Bool
+inRegisters [] = true
+inRegisters (a ∷ l) = ltb a registerBytes && inRegisters l
+
+none-of : (i : ℕ) → registerBytes ≤ i → (l : List ℕ) → inRegisters l ≡ true → among l i ≡ false
+none-of i h [] e = refl
+none-of i h (a ∷ l) e =
+    rw (beyond i a h (ltb-true a registerBytes (and-left (ltb a registerBytes) (inRegisters l) e)), none-of i h l (and-right (ltb a registerBytes) (inRegisters l) e))
+
 module _ (net : List ℕ) (j i : ℕ) (h : registerBytes ≤ i) (own : j ≡ holder net → i ≡ pageAt (sentPage net) → ⊥) where
   still : rowMoves net false j i ≡ false
   still =
       pick-of (λ (x : Bool). x ≡ false) (eqb (phase net) LOST) (λ _. rw (beyond i at-status h (omega arith), beyond i at-nid h (omega arith)))
       (λ _. pick-of (λ (x : Bool). x ≡ false) (eqb (phase net) PASS) (λ _. rw (beyond i at-diagnostic h (omega arith), beyond i at-nid h (omega arith)) (none (eqb j (holder net))))
       (λ _. pick-of (λ (x : Bool). x ≡ false) (eqb j (holder net))
-      (λ e. rw (beyond i at-status h (omega arith), beyond i at-diagnostic h (omega arith), beyond i at-transmit h (omega arith), beyond i at-receive h (omega arith))
-      (ne-eqb i (pageAt (sentPage net)) (own (eqb-true j (holder net) e))))
+      (λ e. rw (none-of i h (holderBytes (chaining (regsAt net j))) (low (chaining (regsAt net j)))) (ne-eqb i (pageAt (sentPage net)) (own (eqb-true j (holder net) e))))
       (λ _. rw (beyond i at-diagnostic h (omega arith)))))
     where
+      low : (c : Bool) → inRegisters (holderBytes c) ≡ true
+      low true = refl
+      low false = refl
+
       none : (b : Bool) → (b && false) ≡ false
       none true = refl
       none false = refl
@@ -65,6 +83,10 @@ module _ (net : List ℕ) (bytes : Bytes net) (s : shape net ≡ true) (fault : 
         waited = f .waited;
         filled = f .filled;
         ended = f .ended;
+        plain = λ c. let g = regsAt net j in
+            let fit = row-fits net j s l in
+            let u = unqueued-fit g c (rules-fit g fit) in
+            (f .filled ∙ received-ends g fit ∙ rw (u .receive .second), ap (λ (q : Queue). q .oldest) (f .ended) ∙ received-page g fit ∙ rw (u .receive .second));
         holds = f .holds;
         reads = data-there new j (a .fits) lj _ ∙ f .holds .bytes ∙ sym (data-there net (holder net) s (held-row net s) _);
         number = number-there new j (a .fits) lj _ ∙ f .holds .readable;

@@ -1,5 +1,7 @@
 pub mod Once
 pub mod LapReads
+pub mod OfBits
+pub mod OfQueues
 pub mod OfRegisters
 pub mod OfCard
 pub mod OfTable

@@ -7,6 +7,7 @@ use Prim.Native.Nat.{ℕ, _+_, _*_, _≤_, _<_}
 use lib.ListN.{length, getD}
 use Rattle.bits.specs.Words.{among}
 use Rattle.registers.specs.Layout.{at-diagnostic, readChanges}
+use Rattle.registers.specs.Sides.{chaining}
 use Rattle.registers.specs.Numbers.{Smallest}
 use Rattle.card.specs.Packets.{shapeOf, dataBytes, CanBeSent, malformed}
 use Rattle.card.specs.Moves.{OnlyAt}
@@ -15,13 +16,15 @@ use Rattle.line.specs.declared.step.Answer.the-variants.{Held}
 use Rattle.table.specs.Network.{headerBytes, rows, phase, holder, Bytes, TAKEN, rowAt, regsAt, shape, SameFrame, OnlyRow, LOST, onLineAt}
 use Rattle.table.specs.Calls.{placeRefusals, placeNumber, netReadRefusals, netReading, netAfterRead, netWriteRefusals, netWriteNumber, netWriteMoves, netAfterWrite, resetMoves, netAfterReset, timerRefusals, timerNumber, netAfterTimer, netInterrupt, netData, netDataRefusals, netDataNumber, freshRefusals, freshNumber, netAfterFresh}
 use Rattle.line.specs.Step.{stepRefusals, step, answerNumber, answerValue, highest}
-use Rattle.line.specs.Outcomes.{stores, rowMoves, HolderLeft, meets}
+use Rattle.line.specs.Outcomes.{stores, rowMoves, HolderLeft, PlainLeft, meets}
 use Rattle.desk.specs.declared.laps.Taker.{Taker}
 use Rattle.desk.specs.Numbers.{ORDER}
 use Rattle.desk.specs.Order.{records, orderFits, idAt}
 use Rattle.desk.specs.Load.{roomRefusals, loadNumber, netAfterLoad}
 use Rattle.desk.specs.Lap.{nodes, after, answers, takers, lapSteps, lapRefusals, lapNumber, lapped, netAfterLap, lapTakers, listAfterLap}
 use Rattle.desk.specs.Demand.{Call, table, steps, answersOf, Throughout, LapOf, FirstLapOf}
+use Rattle.promises.specs.OfBits.{OfBits}
+use Rattle.promises.specs.OfQueues.{OfQueues}
 use Rattle.promises.specs.OfRegisters.{OfRegisters}
 use Rattle.promises.specs.OfCard.{OfCard}
 use Rattle.promises.specs.OfTable.{OfTable}
@@ -93,11 +96,13 @@ pub record NoOtherByte : Type 0 where
   pub step-row : (net : List ℕ) → Bytes net → shape net ≡ true → (fault j : ℕ) → j < rows net
       → OnlyAt (rowMoves net (stores net fault j) j) (rowAt net j) (rowAt (step net fault .after) j)
 
--- ---- the values that document 01 gives for each outcome: all the holder's registers after a step that answers Held, and so TA, TMA and byte 13
+-- ---- the values that document 01 and C-11 give for each outcome: all the holder's registers after a step that answers Held, and so TA, TMA, TTA and byte 13; in a row
+-- with CCHEN 0 as document 01 alone gives them
 abbrev pub OutcomesSay : Type 0
 OutcomesSay =
     (net : List ℕ) → Bytes net → shape net ≡ true → phase net ≡ TAKEN → (fault : ℕ) (o : Outcome) → step net fault .answer ≡ Held o
     → HolderLeft (regsAt net (holder net)) (regsAt (step net fault .after) (holder net)) o
+    × (chaining (regsAt net (holder net)) ≡ false → PlainLeft (regsAt net (holder net)) (regsAt (step net fault .after) (holder net)) o)
 
 -- ---- "A fault that meets no message of its kind does nothing"
 abbrev pub IdleFaults : Type 0
@@ -110,6 +115,8 @@ Sizes = (count next : ℕ) (long : Bool) → count < 256 → next < 256 → malf
 -- ---- "no second outcome fits": the contract of every public function, crate by crate. None is left out; two are read in a way of their own, `laps::walk` (OfDesk)
 -- and `laps::lap` (LapReads)
 pub record OneOutcome : Type 0 where
+  pub bits : OfBits
+  pub queues : OfQueues
   pub registers : OfRegisters
   pub card : OfCard
   pub table : OfTable

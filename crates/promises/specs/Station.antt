@@ -6,7 +6,8 @@ use mathlib.Core.List.{List}
 use Prim.Native.Nat.{ℕ, _≤_, _<_}
 use lib.Dec.{eqb}
 use lib.ListN.{getD}
-use Rattle.registers.specs.Events.{receiving, takesBroadcasts, receivePage}
+use Rattle.registers.specs.Events.{received, receiving, takesBroadcasts, receivePage}
+use Rattle.registers.specs.Sides.{chaining}
 use Rattle.card.specs.Row.{registerBytes}
 use Rattle.card.specs.Packets.{pageAt, storable}
 use Rattle.card.specs.Moves.{Holds}
@@ -22,11 +23,13 @@ use Rattle.desk.specs.Order.{records, idAt, nameAt}
 use Rattle.desk.specs.Load.{loadNumber, netAfterLoad}
 
 -- ---- row j of a network, before a step and after it
--- it stored the packet: RI was 0; "RI = 1, byte 14 zero"; its receive page holds what the holder sent, and the page reader gives it byte for byte
+-- it stored the packet: RI was 0; RI and the queue are as a receive that ends leaves them, with CCHEN 0 "RI = 1, byte 14 zero"; its receive page holds what the
+-- holder sent, and the page reader gives it byte for byte
 pub record Stored (net new : List ℕ) (j : ℕ) : Type 0 where
   pub waited : receiving (regsAt net j) ≡ true
-  pub filled : receiving (regsAt new j) ≡ false
-  pub ended : regsAt new j .receive ≡ 0
+  pub filled : receiving (regsAt new j) ≡ receiving (received (regsAt net j))
+  pub ended : regsAt new j .receive ≡ received (regsAt net j) .receive
+  pub plain : chaining (regsAt net j) ≡ false → (receiving (regsAt new j) ≡ false) × (regsAt new j .receive .oldest ≡ 0)
   pub holds : Holds (sender net) (sentPage net) (rowAt new j) (receivePage (regsAt net j))
   pub reads : netData new j (receivePage (regsAt net j)) ≡ netData net (holder net) (sentPage net)
   pub number : netDataNumber new j (receivePage (regsAt net j)) ≡ 0

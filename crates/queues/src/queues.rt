@@ -110,7 +110,7 @@ impl Queue {
 
 impl Side {
     // One waits.
-    pub fn waiting(self, way: Way) -> bool
+    pub(crate) fn waiting(self, way: Way) -> bool
         ensures { λ r. ⌜ r ≡ waiting way self ⌝ }
     {
         self.status & way.free_flag() == 0
