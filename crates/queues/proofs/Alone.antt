@@ -25,11 +25,11 @@ alone-fit w long s f =
     let c = fit-rules w false long s f .agrees .chains in
     record { second = eqb-true _ _ (and-left (eqb (q .second) 0) (eqb (q .done) 0) c); done = eqb-true _ _ (and-right (eqb (q .second) 0) (eqb (q .done) 0) c) }
 
-not-two : (w : Way) (q : Queue) → q .second ≡ 0 → two w q ≡ false
+pub not-two : (w : Way) (q : Queue) → q .second ≡ 0 → two w q ≡ false
 not-two Transmit q e = rw e
 not-two Receive q e = rw e
 
-not-told : (q : Queue) → q .done ≡ 0 → uncleared q ≡ false
+pub not-told : (q : Queue) → q .done ≡ 0 → uncleared q ≡ false
 not-told q e = rw e
 
 abbrev Stays : Side → Type 0

@@ -3,3 +3,4 @@ pub mod Going
 pub mod Changes
 pub mod Leaves
 pub mod Alone
+pub mod Plain
