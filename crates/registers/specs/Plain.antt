@@ -2,18 +2,18 @@
 -- Assumes nothing.
 use mathlib.Core.Path.{_≡_}
 use mathlib.Core.Bool.{Bool, true, false, not, _&&_, _||_}
-use mathlib.Core.List.{List, [], _∷_, _++_}
+use mathlib.Core.List.{List, [], _∷_}
 use Prim.Native.Nat.{ℕ, _+_, _%_, _<_}
 use lib.Dec.{eqb}
 use Rattle.registers.specs.declared.regs.Regs.{Regs}
 use Rattle.registers.specs.declared.commands.Command.{Command}
 use Rattle.registers.specs.declared.commands.Command.the-variants.{Illegal, DisableTransmitter, DisableReceiver, EnableTransmit, EnableReceive, LongPackets, ClearFlags, ClearTransmit, ClearReceive}
 use Rattle.bits.specs.Words.{pick, all, among, clear, has, raise, lower}
-use Rattle.bits.specs.Flags.{RI, POR, RECON, TMA, TA, RESET, CCHEN, RDDATA, CANCEL, BROADCASTS, LOW2, only, statusBits, diagnosticBits, maskBits, setupBits, modeBits, transmitBits, receiveBits}
+use Rattle.bits.specs.Flags.{RI, POR, RECON, TMA, TA, RESET, CCHEN, RDDATA, CANCEL, BROADCASTS, only, maskBits, setupBits, modeBits, transmitBits, receiveBits}
 use Rattle.registers.specs.Numbers.{REGISTER, VALUE, NOTREADY, DIRECTION, BUSY, ONLINE, PAGE, Refusal, _when_}
 use Rattle.registers.specs.Fields.{with-status, with-diagnostic, with-mask, with-configuration, with-transmit, with-receive, with-long}
 use Rattle.registers.specs.Sides.{chaining}
-use Rattle.registers.specs.Fit.{awake, onLine, fit}
+use Rattle.registers.specs.Fit.{awake, onLine, named, fit}
 use Rattle.registers.specs.Commands.{legalBytes, commandOf}
 use Rattle.registers.specs.Registers.{sub, shown, interrupt, configured, commanded, writesId}
 use Rattle.registers.specs.Refusals.{noRegister, illegal, busy, oddPage, writeRefusals}
@@ -25,10 +25,6 @@ with-oldest-transmit v g = with-transmit (record { oldest = v; second = g .trans
 
 abbrev pub with-oldest-receive : ℕ → Regs → Regs
 with-oldest-receive v g = with-receive (record { oldest = v; second = g .receive .second; done = g .receive .done }) g
-
--- "Reading 0 gives status"
-abbrev pub plainShown : Regs → ℕ
-plainShown g = g .status
 
 -- "The interrupt is active exactly when POR is set, or RI, RECON or TA is set with its mask bit"
 abbrev pub plainInterrupt : Regs → Bool
@@ -102,34 +98,24 @@ plainWriteRefusals g k v =
     ∷ ONLINE when (onLine g && writesId g k)
     ∷ PAGE when (eqb k 1 && oddPage g (commandOf v)) ∷ []
 
--- "Unnamed bits are zero", "CCHEN = 0"
-abbrev pub plainNamed : Regs → List Bool
-plainNamed g =
-    only statusBits (g .status) ∷ only diagnosticBits (g .diagnostic) ∷ only maskBits (g .mask)
-    ∷ clear CCHEN (g .configuration) ∷ only setupBits (g .setup) ∷ only LOW2 (g .high) ∷ only modeBits (g .mode)
-    ∷ only transmitBits (g .transmit .oldest) ∷ only receiveBits (g .receive .oldest) ∷ only 1 (g .long) ∷ []
-
--- "TA = 1 only with byte 13 zero; RI = 1 only with byte 14 zero; TMA = 1 only with TA = 1; ..
--- with long packets 1, an enabled page (TA = 0, RI = 0) is even"
+-- "CCHEN = 0"; of bytes 13 and 14 too unnamed bits are zero; "TA = 1 only with byte 13 zero; RI = 1 only with byte 14 zero; TMA = 1 only with TA = 1; ..
+-- with long packets 1, an enabled page (TA = 0, RI = 0) is even"; and of "16-63 zero" the bytes of the queues
 abbrev pub plainAgree : Regs → List Bool
 plainAgree g =
-    (clear TA (g .status) || eqb (g .transmit .oldest) 0) ∷ (clear RI (g .status) || eqb (g .receive .oldest) 0)
+    clear CCHEN (g .configuration) ∷ only transmitBits (g .transmit .oldest) ∷ only receiveBits (g .receive .oldest)
+    ∷ (clear TA (g .status) || eqb (g .transmit .oldest) 0) ∷ (clear RI (g .status) || eqb (g .receive .oldest) 0)
     ∷ (clear TMA (g .status) || has TA (g .status))
     ∷ (not (eqb (g .long) 1) || has TA (g .status) || clear 1 (g .transmit .oldest))
-    ∷ (not (eqb (g .long) 1) || has RI (g .status) || clear 1 (g .receive .oldest)) ∷ []
-
--- "16-63 zero": the bytes that other requests use
-abbrev pub plainZero : Regs → List Bool
-plainZero g =
-    eqb (g .transmit .second) 0 ∷ eqb (g .receive .second) 0 ∷ eqb (g .transmit .done) 0 ∷ eqb (g .receive .done) 0
-    ∷ eqb (g .later .fetched) 0 ∷ eqb (g .later .naklow) 0 ∷ eqb (g .later .nakhigh) 0 ∷ []
+    ∷ (not (eqb (g .long) 1) || has RI (g .status) || clear 1 (g .receive .oldest))
+    ∷ eqb (g .transmit .second) 0 ∷ eqb (g .receive .second) 0 ∷ eqb (g .transmit .done) 0 ∷ eqb (g .receive .done) 0 ∷ []
 
 abbrev pub plainFit : Regs → Bool
-plainFit g = all (plainNamed g ++ plainAgree g ++ plainZero g)
+plainFit g = all (named g) && all (plainAgree g)
 
 -- what is in use, for the row g: of the commands, 00 and 08 are illegal. A write of CCHEN = 1, which document 01 refuses, makes g a chaining row
 pub record Plain (g : Regs) : Type 0 where
-  pub shown : shown g ≡ plainShown g
+  -- "Reading 0 gives status"
+  pub shown : shown g ≡ g .status
   pub interrupt : interrupt g ≡ plainInterrupt g
   pub received : received g ≡ plainReceived g
   pub sent : (acknowledged : Bool) → sent g acknowledged ≡ plainSent g acknowledged
