@@ -2,4 +2,4 @@ pub mod Fits
 pub mod Going
 pub mod Changes
 pub mod Leaves
-pub mod Alone
+pub mod Plain

@@ -11,3 +11,4 @@ pub mod Listens
 pub mod Loads
 pub mod Legal
 pub mod Sums
+pub mod Plains

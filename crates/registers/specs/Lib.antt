@@ -7,3 +7,4 @@ pub mod Registers
 pub mod Layout
 pub mod Refusals
 pub mod Events
+pub mod Plain

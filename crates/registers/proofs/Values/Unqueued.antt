@@ -1,4 +1,5 @@
--- A row with CCHEN 0: nothing is in its bytes 16 to 19, before a change and after it. So they are kept, and a list of changed bytes goes without them.
+-- A row with CCHEN 0: each change is that of document 01 alone, and nothing is in its bytes 16 to 19, before it and after. So they are kept, and a list of changed
+-- bytes goes without them.
 -- Assumes nothing.
 use mathlib.Core.Path.{_≡_, refl, sym, _∙_, ap}
 use mathlib.Core.Bool.{Bool, true, false, _&&_, _||_, true≢false}
@@ -10,21 +11,23 @@ use borrow.Author.Tests.{eqb-true}
 use lib.Dec.{eqb, lit<}
 use lib.ListN.{getD}
 use Rattle.queues.specs.declared.queues.Way.the-variants.{Transmit, Receive}
+use Rattle.queues.specs.declared.queues.Side.{Side}
 use Rattle.registers.specs.declared.regs.Regs.{Regs}
 use Rattle.registers.specs.declared.commands.Command.{Command}
 use Rattle.registers.specs.declared.commands.Command.the-variants.{Illegal, DisableTransmitter, DisableReceiver, EnableTransmit, EnableReceive, LongPackets, ClearFlags, ClearTransmit, ClearReceive}
-use Rattle.bits.specs.Words.{pick, clear, has, all, among}
-use Rattle.bits.specs.Flags.{RESET, AUTO-INC}
+use Rattle.bits.specs.Words.{pick, clear, has, raiseIf, all, among}
+use Rattle.bits.specs.Flags.{RESET, AUTO-INC, CANCEL, BROADCASTS}
 use Rattle.queues.specs.Queues as queues
-use Rattle.registers.specs.Sides.{chaining, sideOf}
+use Rattle.registers.specs.Sides.{chaining, sideOf, withSide}
 use Rattle.registers.specs.Fields.{with-configuration}
 use Rattle.registers.specs.Fit.{named, fit}
 use Rattle.registers.specs.Commands.{commandOf}
 use Rattle.registers.specs.Registers.{sub, stepped, hardwareReset, changesChaining, configured, commanded, seventhWritten, afterWrite}
 use Rattle.registers.specs.Layout.{resetBytes, at-second-transmit, at-second-receive, at-sent, at-received, at-fetched, writeBytes, writeChanges}
-use Rattle.registers.specs.Events.{received, transmitCancelled, cancelled, sent}
+use Rattle.registers.specs.Events.{received, transmitCancelled, receiveCancelled, cancelled, sent}
+use Rattle.registers.specs.Plain.{plainCommanded, plainReceived, plainTransmitCancelled, plainReceiveCancelled, plainSent}
 use Rattle.bits.proofs.Words.Bools.{cases, and-left, and-right, or-left, or-right, pick-of, pick-both}
-use Rattle.queues.proofs.Alone.{Alone, alone-fit, alone-enabled, alone-disabled, alone-cleared, alone-ended, alone-cancelled}
+use Rattle.queues.proofs.Plain.{Alone, alone-fit, plain-ended, plain-cleared, plain-enabled, plain-disabled, plain-cancelled}
 use Rattle.registers.proofs.Values.Keeps.{Keeps, row, row-at, keeps-write, keeps-all}
 use Rattle.registers.proofs.Values.Fits.{fit-rules}
 
@@ -98,25 +101,45 @@ module _ (g : Regs) (c : chaining g ≡ false) where
       }
 
   module _ (u : Unqueued g) where
-    pub unqueued-received : Unqueued (received g)
+    pub received-plain : received g ≡ plainReceived g
     unfolding received
-    unqueued-received = rw c (record { transmit = u .transmit; receive = alone-ended Receive (sideOf Receive g) (u .receive) false })
+    received-plain = rw (c, plain-ended Receive (sideOf Receive g) (u .receive) false)
+
+    pub sent-plain : (a : Bool) → sent g a ≡ plainSent g a
+    unfolding sent
+    sent-plain a = rw (c, plain-ended Transmit (sideOf Transmit g) (u .transmit) a)
+
+    pub commanded-plain : (k : Command) → commanded g k ≡ plainCommanded g k
+    unfolding commanded
+    commanded-plain Illegal = refl
+    commanded-plain DisableTransmitter = rw (plain-disabled Transmit (sideOf Transmit g) (u .transmit))
+    commanded-plain DisableReceiver = rw (plain-disabled Receive (sideOf Receive g) (u .receive))
+    commanded-plain (EnableTransmit p) = rw (c, plain-enabled Transmit (sideOf Transmit g) (u .transmit) p)
+    commanded-plain (EnableReceive p b) = rw (c, plain-enabled Receive (sideOf Receive g) (u .receive) (raiseIf b BROADCASTS p))
+    commanded-plain (LongPackets l) = refl
+    commanded-plain (ClearFlags p r) = refl
+    commanded-plain ClearTransmit = rw (plain-cleared Transmit (sideOf Transmit g) (u .transmit))
+    commanded-plain ClearReceive = rw (plain-cleared Receive (sideOf Receive g) (u .receive))
+
+    pub unqueued-received : Unqueued (received g)
+    unqueued-received = rw received-plain (search u)
 
     pub unqueued-sent : (a : Bool) → Unqueued (sent g a)
-    unfolding sent
-    unqueued-sent a = rw c (record { transmit = alone-ended Transmit (sideOf Transmit g) (u .transmit) a; receive = u .receive })
+    unqueued-sent a = rw (sent-plain a) (search u)
 
     unqueued-commanded : (k : Command) → Unqueued (commanded g k)
-    unfolding commanded
-    unqueued-commanded Illegal = u
-    unqueued-commanded DisableTransmitter = record { transmit = alone-disabled Transmit (sideOf Transmit g) (u .transmit); receive = u .receive }
-    unqueued-commanded DisableReceiver = record { transmit = u .transmit; receive = alone-disabled Receive (sideOf Receive g) (u .receive) }
-    unqueued-commanded (EnableTransmit p) = rw c (record { transmit = alone-enabled Transmit (sideOf Transmit g) (u .transmit) p; receive = u .receive })
-    unqueued-commanded (EnableReceive p b) = rw c (record { transmit = u .transmit; receive = alone-enabled Receive (sideOf Receive g) (u .receive) _ })
-    unqueued-commanded (LongPackets l) = search u
-    unqueued-commanded (ClearFlags p r) = search u
-    unqueued-commanded ClearTransmit = record { transmit = alone-cleared Transmit (sideOf Transmit g) (u .transmit); receive = u .receive }
-    unqueued-commanded ClearReceive = record { transmit = u .transmit; receive = alone-cleared Receive (sideOf Receive g) (u .receive) }
+    unqueued-commanded k = rw (commanded-plain k) (stays k)
+      where
+        stays : (k : Command) → Unqueued (plainCommanded g k)
+        stays Illegal = u
+        stays DisableTransmitter = search u
+        stays DisableReceiver = search u
+        stays (EnableTransmit p) = search u
+        stays (EnableReceive p b) = search u
+        stays (LongPackets l) = search u
+        stays (ClearFlags p r) = search u
+        stays ClearTransmit = u
+        stays ClearReceive = u
 
     pub unqueued-write : (k v : ℕ) → Unqueued (afterWrite g k v)
     unfolding afterWrite configured stepped seventhWritten
@@ -133,12 +156,26 @@ module _ (g : Regs) (c : chaining g ≡ false) where
         (λ _. pick-of Unqueued (eqb (sub g) 0) (λ _. search u) (λ _. pick-of Unqueued (eqb (sub g) 1) (λ _. search u) (λ _. search u)))
         (λ _. u)))))))
 
-pub unqueued-cancelled : (g : Regs) → Unqueued g → Unqueued (cancelled g)
+-- ---- the cancels of each side
+transmit-plain : (g : Regs) → Alone (g .transmit) → transmitCancelled g ≡ plainTransmitCancelled g
+transmit-plain g a =
+    rw (plain-cancelled Transmit (sideOf Transmit g) a)
+    (pick-both (λ (s : Side) (h : Regs). withSide Transmit s g ≡ h) (clear CANCEL (g .transmit .oldest)) refl refl)
+
+receive-plain : (g : Regs) → Alone (g .receive) → receiveCancelled g ≡ plainReceiveCancelled g
+receive-plain g a =
+    rw (plain-cancelled Receive (sideOf Receive g) a)
+    (pick-both (λ (s : Side) (h : Regs). withSide Receive s g ≡ h) (clear CANCEL (g .receive .oldest)) refl refl)
+
+pub cancelled-plain : (g : Regs) → Unqueued g → cancelled g ≡ plainReceiveCancelled (plainTransmitCancelled g)
 unfolding cancelled
-unqueued-cancelled g u = record {
-  transmit = alone-cancelled Transmit (sideOf Transmit g) (u .transmit);
-  receive = alone-cancelled Receive (sideOf Receive (transmitCancelled g)) (u .receive);
-}
+cancelled-plain g u = receive-plain (transmitCancelled g) (u .receive) ∙ ap plainReceiveCancelled (transmit-plain g (u .transmit))
+
+pub unqueued-cancelled : (g : Regs) → Unqueued g → Unqueued (cancelled g)
+unqueued-cancelled g u =
+    let h = plainTransmitCancelled g in
+    let v : Unqueued h = pick-of Unqueued (clear CANCEL (g .transmit .oldest)) (λ _. u) (λ _. search u) in
+    rw (cancelled-plain g u) (pick-of Unqueued (clear CANCEL (h .receive .oldest)) (λ _. v) (λ _. search v))
 
 -- ---- a write, by CCHEN as it was
 plain-writes : (g : Regs) (k : ℕ) → plain (writeBytes true g k) ≡ writeBytes false g k
