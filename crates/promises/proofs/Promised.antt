@@ -1,5 +1,8 @@
 -- Refused calls change nothing, no other byte moves, a fault that meets nothing does nothing, the sizes of packets, and no second outcome fits a contract.
 -- Assumes nothing.
+use Rattle.registers.proofs.Values.Fits.{rules-fit}
+use Rattle.registers.proofs.Values.Plains.{plain}
+use Rattle.table.specs.Network.{regsAt}
 use Rattle.table.proofs.Access.Refused.{read-refused, write-refused, reset-refused, timer-refused, interrupt-refused, data-refused, fresh-refused}
 use Rattle.line.proofs.Steps.Refused.{step-refused}
 use Rattle.table.proofs.Shaped.Alike.{bytes-rams}
@@ -14,7 +17,7 @@ use Rattle.line.proofs.Promised.Faults.{idle-fault}
 use Rattle.card.proofs.CardSums.{data-sizes}
 use Rattle.desk.proofs.Loads.Loaded.{load-refused}
 use Rattle.desk.proofs.Lapping.LapLeaves.{walk-refused, lap-refused}
-use Rattle.promises.specs.Promises.{RefusalsChangeNothing, NoOtherByte, OutcomesSay, IdleFaults, Sizes, OneOutcome}
+use Rattle.promises.specs.Promises.{RefusalsChangeNothing, NoOtherByte, OutcomesSay, PlainRows, IdleFaults, Sizes, OneOutcome}
 use Rattle.promises.proofs.Once.Bits.{bits-once}
 use Rattle.promises.proofs.Once.Queues.{queues-once}
 use Rattle.promises.proofs.Once.Registers.{registers-once}
@@ -52,6 +55,9 @@ no-other-byte = record {
 
 pub outcomes-say : OutcomesSay
 outcomes-say net b s p = λ fault o e. let l = holder-left net p s (bytes-rams net s b) fault o e in (l, λ c. plain-left _ _ o (row-fits net _ s (held-row net s)) c l)
+
+pub plain-rows : PlainRows
+plain-rows net s k l = plain (regsAt net k) (rules-fit (regsAt net k) (row-fits net k s l))
 
 pub idle-faults : IdleFaults
 idle-faults = idle-fault

@@ -5,7 +5,7 @@ use mathlib.Core.List.{List, _∷_, map}
 use Prim.Native.Nat.{ℕ, _+_}
 use lib.ListN.{take}
 use Rattle.card.proofs.CardSums.{count-2, count-3, count-255, long-3, long-4, long-255}
-use Rattle.registers.proofs.Values.Sums.{page-2C, page-0B, nid-255, pointer-1023, status-reset, status-written}
+use Rattle.registers.proofs.Values.Sums.{page-2C, page-0B, nid-255, pointer-1023, status-reset, status-written, shown-reset, shown-cleared}
 use Rattle.table.specs.Network.{rows, topId}
 use Rattle.table.proofs.Shaped.Alike.{bytes-rams}
 use Rattle.desk.specs.Lap.{nodes, answers, invitations, takers, lapSteps}
@@ -39,6 +39,8 @@ sums = record {
   pointer-1023 = pointer-1023;
   status-reset = status-reset;
   status-written = status-written;
+  shown-reset = shown-reset;
+  shown-cleared = shown-cleared;
   from-200-to-7 = λ net r h l e. hop net r h l e;
   two-nodes = λ net r e. pair net r e;
 }

@@ -8,6 +8,7 @@ use lib.ListN.{length, getD}
 use Rattle.bits.specs.Words.{among}
 use Rattle.registers.specs.Layout.{at-diagnostic, readChanges}
 use Rattle.registers.specs.Sides.{chaining}
+use Rattle.registers.specs.Plain.{Plain}
 use Rattle.registers.specs.Numbers.{Smallest}
 use Rattle.card.specs.Packets.{shapeOf, dataBytes, CanBeSent, malformed}
 use Rattle.card.specs.Moves.{OnlyAt}
@@ -103,6 +104,10 @@ OutcomesSay =
     (net : List ℕ) → Bytes net → shape net ≡ true → phase net ≡ TAKEN → (fault : ℕ) (o : Outcome) → step net fault .answer ≡ Held o
     → HolderLeft (regsAt net (holder net)) (regsAt (step net fault .after) (holder net)) o
     × (chaining (regsAt net (holder net)) ≡ false → PlainLeft (regsAt net (holder net)) (regsAt (step net fault .after) (holder net)) o)
+
+-- ---- C-11, "Statements about rows with CCHEN 0 read as before": of such a row each definition of a card is document 01's
+abbrev pub PlainRows : Type 0
+PlainRows = (net : List ℕ) → shape net ≡ true → (k : ℕ) → k < rows net → chaining (regsAt net k) ≡ false → Plain (regsAt net k)
 
 -- ---- "A fault that meets no message of its kind does nothing"
 abbrev pub IdleFaults : Type 0

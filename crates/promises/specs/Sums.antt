@@ -9,9 +9,9 @@ use Rattle.registers.specs.declared.regs.Regs.{Regs}
 use Rattle.card.specs.declared.packets.Shape.the-variants.{Malformed}
 use Rattle.registers.specs.declared.commands.Command.the-variants.{EnableTransmit, EnableReceive}
 use Rattle.bits.specs.Words.{has}
-use Rattle.bits.specs.Flags.{AUTO-INC, RESET}
+use Rattle.bits.specs.Flags.{AUTO-INC, RESET, CCHEN}
 use Rattle.registers.specs.Commands.{commandOf}
-use Rattle.registers.specs.Registers.{pointer, stepped, hardwareReset, configured}
+use Rattle.registers.specs.Registers.{pointer, stepped, shown, hardwareReset, configured, commanded}
 use Rattle.card.specs.Packets.{shapeOf, dataBytes}
 use Rattle.registers.specs.Events.{risenNid}
 use Rattle.table.specs.Network.{rows, topId}
@@ -40,6 +40,9 @@ pub record Sums : Type 0 where
   pub pointer-1023 : (g : Regs) → has AUTO-INC (g .mode) ≡ true → pointer g ≡ 1023 → pointer (stepped g) ≡ 0
   pub status-reset : hardwareReset .status ≡ 0x91
   pub status-written : (g : Regs) (v : ℕ) → has RESET v ≡ true → configured g v .status ≡ 0x91
+  -- C-11: the status that a card reads after a reset, once CCHEN is set: RI, TA and POR; and with POR cleared by 0E
+  pub shown-reset : (v : ℕ) → has CCHEN v ≡ true → shown (configured hardwareReset v) ≡ 0x70
+  pub shown-cleared : (v : ℕ) → has CCHEN v ≡ true → shown (commanded (configured hardwareReset v) (commandOf 0x0e)) ≡ 0x60
   -- "ID 200 to 7 takes 64": where 200 is the highest ID on line and 7 the lowest, the lap's first entry is of ID 7, after 64 invitations
   pub from-200-to-7 : (net : List ℕ) → Ready net → topId net (rows net) ≡ 200 → (l : List ℕ) → idsOnLine net ≡ 7 ∷ l
       → take 1 (map hopOf (takers net 0 (answers (lapSteps net) net))) ≡ (7, 64) ∷ []
