@@ -20,9 +20,9 @@ returns-2 c =
 returns-3 : tie.Need-returns-3
 unfolding disabled
 returns-3 c =
-    let d = c .before .before in
-    let w = d .before .before .before in
-    simp (sym (w .before .waiting .ensures) ∙ not-false _ (w .if1 .left), simp (d .before .before .two .ensures) at (d .if2 .left))
+    let oldest = c .before .before in
+    let w = oldest .before .before .before in
+    simp (sym (w .before .waiting .ensures) ∙ not-false _ (w .if1 .left), simp (oldest .before .before .two .ensures) at (oldest .if2 .left))
 
 pub disabled-spec : {M : Type 1} → statement M
 disabled-spec = tie.close (tie.spec (λ c κs. search needs) returns (λ c κs. search needs) returns-2 returns-3)
