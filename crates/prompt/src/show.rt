@@ -3,6 +3,7 @@ ghost use Prim.Native.Nat.{_≤_};
 ghost use lib.ListN.{length};
 ghost use mathlib.Core.Path.{_≡_};
 ghost use Rattle.table.specs.Network.{rowStart, rows};
+use bits::choice::choose;
 use bits::flags::BROADCASTS;
 use bits::flags::POR;
 use bits::flags::RECON;
@@ -46,52 +47,51 @@ fn flags(out: &mut [u8; ROOM], n: usize, g: Regs) -> usize {
     flag(out, n, g.receive.uncleared(), 6)
 }
 
-fn either(first: bool, x: u8, y: u8) -> u8 {
-    if first { x } else { y }
-}
-
 // The digit of a page, in the low bits of a waiting entry.
 fn page(entry: u8) -> u8 {
     b'0' + entry % 4
 }
 
-// B, where broadcasts are wanted.
-fn wanted(entry: u8) -> u8 {
-    either(entry & BROADCASTS != 0, b'B', b' ')
-}
-
-// The columns LINE, TX and RX: on or off line, the pages that wait to be sent, oldest first, and the oldest that waits
-// to be filled.
-fn cells(g: Regs) -> [u8; 15] {
+// The columns LINE and TX, and RX up to its first page: on or off line, and the pages that wait, oldest first.
+fn cells(g: Regs) -> [u8; 14] {
     let on = g.on_line();
     let two = g.transmit.two(Way::Transmit);
-    let receiving = g.receiving();
-    let mut cells = *b"  OFF   -    - ";
-    cells[3] = either(on, b'N', b'F');
-    cells[4] = either(on, b' ', b'F');
-    cells[8] = either(g.transmitting(), page(g.transmit.oldest), b'-');
-    cells[9] = either(two, b',', b' ');
-    cells[10] = either(two, page(g.transmit.second), b' ');
-    cells[13] = either(receiving, page(g.receive.oldest), b'-');
-    cells[14] = either(receiving, wanted(g.receive.oldest), b' ');
+    let mut cells = *b"  OFF   -    -";
+    cells[3] = choose(on, b'N', b'F');
+    cells[4] = choose(on, b' ', b'F');
+    cells[8] = choose(g.transmitting(), page(g.transmit.oldest), b'-');
+    cells[9] = choose(two, b',', b' ');
+    cells[10] = choose(two, page(g.transmit.second), b' ');
+    cells[13] = choose(g.receiving(), page(g.receive.oldest), b'-');
     cells
 }
 
-// The rest of the column RX: a second page that waits to be filled.
-fn second_receive(out: &mut [u8; ROOM], n: usize, g: Regs) -> usize {
-    if !g.receive.two(Way::Receive) {
-        return text(out, n, b" ");
+// B behind a page that waits to be filled, where broadcasts are wanted.
+fn wanted(out: &mut [u8; ROOM], n: usize, entry: u8) -> usize {
+    if entry & BROADCASTS == 0 {
+        return n;
     }
-    let mut cells = *b",  ";
+    text(out, n, b"B")
+}
+
+// The rest of the column RX: a second page behind the first.
+fn receives(out: &mut [u8; ROOM], n: usize, g: Regs) -> usize {
+    if !g.receive.two(Way::Receive) {
+        let mut cells = *b"  ";
+        cells[0] = choose(g.receive.oldest & BROADCASTS != 0, b'B', b' ');
+        return text(out, n, &cells);
+    }
+    let n = wanted(out, n, g.receive.oldest);
+    let mut cells = *b", ";
     cells[1] = page(g.receive.second);
-    cells[2] = wanted(g.receive.second);
-    text(out, n, &cells)
+    let n = text(out, n, &cells);
+    wanted(out, n, g.receive.second)
 }
 
 fn row(out: &mut [u8; ROOM], k: usize, g: Regs) {
     let n = columns(out, 0, k, wide(g.id), wide(g.nid));
     let n = text(out, n, &cells(g));
-    let n = second_receive(out, n, g);
+    let n = receives(out, n, g);
     let n = flags(out, n, g);
     end(out, n);
 }

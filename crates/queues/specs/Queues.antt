@@ -120,8 +120,7 @@ oldestBits Transmit = transmitBits
 oldestBits Receive = receiveBits
 
 abbrev pub secondBits : Way → ℕ
-secondBits Transmit = transmitBits + secondFlag Transmit
-secondBits Receive = receiveBits + secondFlag Receive
+secondBits w = raise (secondFlag w) (oldestBits w)
 
 -- at most two ends are not cleared, and TMA is stored of the second alone
 abbrev pub counted : Way → ℕ → Bool

@@ -41,7 +41,7 @@ impl Way {
     }
 
     // The bit of the second's byte that says that it waits.
-    fn second_flag(self) -> u8
+    pub(crate) fn second_flag(self) -> u8
         ensures { λ r. ⌜ r ≡ secondFlag self ⌝ }
     {
         match self {

@@ -1,6 +1,6 @@
 // C-11, "well-formedness gains their rules": the bytes of a side agree with each other.
 ghost use mathlib.Core.Path.{_≡_};
-ghost use Rattle.queues.specs.Queues.{oldestBits, secondBits, counted, sound, fit};
+ghost use Rattle.queues.specs.Queues.{oldestBits, counted, sound, fit};
 use crate::queues::KEPT;
 use crate::queues::Side;
 use crate::queues::Way;
@@ -18,15 +18,6 @@ impl Way {
         match self {
             Way::Transmit => CANCEL | LOW2,
             Way::Receive => CANCEL | BROADCASTS | LOW2,
-        }
-    }
-
-    fn second_bits(self) -> u8
-        ensures { λ r. ⌜ r ≡ secondBits self ⌝ }
-    {
-        match self {
-            Way::Transmit => CANCEL | 1 << 6 | LOW2,
-            Way::Receive => CANCEL | BROADCASTS | 1 << 5 | LOW2,
         }
     }
 
@@ -58,10 +49,11 @@ impl Side {
         ensures { λ r. ⌜ r ≡ fit way chaining long self ⌝ }
     {
         let q = self.queue;
+        let bits = way.oldest_bits();
         let waiting = self.waiting(way);
         let short = long != 1;
-        (q.oldest & !way.oldest_bits() == 0)
-            & (q.second & !way.second_bits() == 0)
+        (q.oldest & !bits == 0)
+            & (q.second & !(bits | way.second_flag()) == 0)
             & way.counted(q.done)
             & (waiting | (q.oldest == 0))
             & ((q.second == 0) | waiting & q.two(way))

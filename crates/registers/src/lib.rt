@@ -1,4 +1,4 @@
-// The registers of one COM20010 card by value (document 01): their bits, the twenty commands, what an access or the line
+// The registers of one COM20010 card by value (document 01): the commands, the two sides, what an access or the line
 // does to them, and what an access is refused with.
 pub mod access;
 pub mod commands;

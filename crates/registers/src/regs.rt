@@ -1,4 +1,4 @@
-// Document 01, "The saved network" and "Registers": the registers of a card by value, their bits, awake and on line, the
+// Document 01, "The saved network" and "Registers": the registers of a card by value, awake and on line, the
 // hardware reset and the interrupt. Each method hands the registers back.
 ghost use mathlib.Core.Path.{_≡_};
 ghost use Rattle.registers.specs.Fit.{awake, onLine, fit};

@@ -9,7 +9,7 @@ use queues::queues::Way;
 
 impl Regs {
     // CCHEN is set.
-    pub fn chaining(self) -> bool
+    pub(crate) fn chaining(self) -> bool
         ensures { λ r. ⌜ r ≡ chaining self ⌝ }
     {
         self.configuration & CCHEN != 0

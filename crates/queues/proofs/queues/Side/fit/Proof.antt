@@ -11,7 +11,7 @@ returns c =
     let n = t .before .before .before in
     let b = n .before .before in
     let o = b .before .before in
-    simp (c .sound .ensures, t .two .ensures, n .counted .ensures, b .second-bits .ensures, o .oldest-bits .ensures, o .before .waiting .ensures)
+    simp (c .sound .ensures, t .two .ensures, n .counted .ensures, b .second-flag .ensures, o .waiting .ensures, o .before .oldest-bits .ensures)
 
 pub fit-spec : {M : Type 1} → statement M
 fit-spec = tie.close (tie.spec (λ c κs. search needs) (λ c κs. search needs) (λ c κs. search needs) (λ c κs. search needs) (λ c κs. search needs) (λ c κs. search needs) returns)
