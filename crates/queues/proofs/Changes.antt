@@ -1,22 +1,21 @@
 -- A side that fits still does after an Enable, a Disable, an end, the cancels and a Clear.
 -- Assumes nothing.
-use mathlib.Core.Path.{_≡_, refl, sym, _∙_, ap}
+use mathlib.Core.Path.{_≡_, refl, _∙_}
 use mathlib.Core.Bool.{Bool, true, false, not, _&&_, _||_, true≢false}
 use mathlib.Core.Logic.{⊎-elim}
-use Prim.Native.Nat.{ℕ, _+_, _-_, _<_}
-use borrow.Author.Tests.{eqb-true, not-true}
-use lib.Bits.{bitAnd}
-use lib.Dec.{eqb, lit<}
+use Prim.Native.Nat.{ℕ, _+_, _-_}
+use borrow.Author.Tests.{eqb-true}
+use lib.Dec.{eqb}
 use Rattle.queues.specs.declared.queues.Way.{Way}
 use Rattle.queues.specs.declared.queues.Way.the-variants.{Transmit, Receive}
 use Rattle.queues.specs.declared.queues.Side.{Side}
-use Rattle.queues.specs.Queues.{with-status, with-oldest, with-second, with-done, freeFlag, waiting, secondFlag, two, full, uncleared, KEPT, stored, shows, completed, cleared, lowered, enabled, disabled, gone, ended, secondCancelled, cancelled, counted, oldestBits, secondBits, sound}
-use Rattle.bits.specs.Words.{pick, clear, has, raise, raiseIf, lower, setTo}
+use Rattle.queues.specs.Queues.{with-status, with-oldest, with-done, freeFlag, waiting, secondFlag, two, full, uncleared, KEPT, shows, completed, cleared, lowered, enabled, disabled, ended, secondCancelled, cancelled, counted, oldestBits, secondBits, sound}
+use Rattle.bits.specs.Words.{pick, clear, has, raise, lower}
 use Rattle.bits.specs.Flags.{TMA, TA, RI, CANCEL, LOW2, only}
 use Rattle.bits.proofs.Words.Bools.{and-left, and-right, cases, and-false, or-true, or-first, or-between, pick-of}
-use Rattle.bits.proofs.Words.Masks.{lower-to, lower-other, lower-clears, raise-other, raise-sets, set-other, clear-within, nonzero}
-use Rattle.queues.proofs.Fits.{Agrees, Fits, agrees-status, no-second, zero-done}
-use Rattle.queues.proofs.Going.{Bits, bits, behind-chains, agrees-gone, agrees-second-cancelled, agrees-completed, sound-gone, sound-completed, sound-second, sound-oldest, agrees-told, one-counted}
+use Rattle.bits.proofs.Words.Masks.{lower-clears, raise-other, raise-sets, clear-within, nonzero}
+use Rattle.queues.proofs.Fits.{Fits, no-second, zero-done}
+use Rattle.queues.proofs.Going.{bits, behind-chains, agrees-gone, agrees-second-cancelled, agrees-completed, sound-gone, sound-completed, sound-second, sound-oldest, agrees-told, one-counted}
 
 module _ (w : Way) {c : Bool} {l : ℕ} (s : Side) (f : Fits w c l s) where
   pub fits-ended : (acknowledged : Bool) → Fits w c l (ended w c acknowledged s)

@@ -1,6 +1,6 @@
 -- A side that fits: the rules one by one, by name, and what another status, length or queue leaves of them.
 -- Assumes nothing.
-use mathlib.Core.Path.{_≡_, refl, _∙_}
+use mathlib.Core.Path.{_≡_, refl}
 use mathlib.Core.Bool.{Bool, true, false, not, _&&_, _||_}
 use Prim.Native.Nat.{ℕ}
 use borrow.Author.Tests.{eqb-true}

@@ -1,20 +1,19 @@
 -- How the bytes of a side agree while the oldest goes, an end is told, and a cancel takes effect; TMA by itself, since an end breaks its rule until the oldest is gone.
 -- Assumes nothing.
-use mathlib.Core.Path.{_≡_, refl, sym, _∙_, ap}
-use mathlib.Core.Bool.{Bool, true, false, not, _&&_, _||_, true≢false}
-use Prim.Native.Nat.{ℕ, _+_, _-_, _<_}
-use borrow.Author.Tests.{eqb-true, not-true}
+use mathlib.Core.Path.{_≡_, refl, _∙_}
+use mathlib.Core.Bool.{Bool, true, false, not, _&&_, _||_}
+use Prim.Native.Nat.{ℕ, _-_, _<_}
 use lib.Bits.{bitAnd}
 use lib.Dec.{eqb, lit<}
 use Rattle.queues.specs.declared.queues.Way.{Way}
 use Rattle.queues.specs.declared.queues.Way.the-variants.{Transmit, Receive}
 use Rattle.queues.specs.declared.queues.Side.{Side}
-use Rattle.queues.specs.Queues.{with-status, with-oldest, with-second, with-done, freeFlag, waiting, secondFlag, two, full, uncleared, KEPT, stored, shows, completed, cleared, lowered, enabled, disabled, gone, ended, secondCancelled, cancelled, counted, oldestBits, secondBits, sound}
-use Rattle.bits.specs.Words.{pick, clear, has, raise, raiseIf, lower, setTo}
-use Rattle.bits.specs.Flags.{TMA, TA, RI, CANCEL, LOW2, only}
+use Rattle.queues.specs.Queues.{with-status, with-oldest, with-second, with-done, freeFlag, waiting, secondFlag, two, uncleared, KEPT, stored, shows, completed, gone, secondCancelled, counted, oldestBits, secondBits, sound}
+use Rattle.bits.specs.Words.{clear, has, raise, raiseIf, setTo}
+use Rattle.bits.specs.Flags.{TMA, TA, CANCEL, LOW2}
 use Rattle.bits.proofs.Words.Bools.{and-left, and-right, or-true, or-first, or-between, pick-of}
-use Rattle.bits.proofs.Words.Masks.{lower-to, lower-other, lower-clears, raise-other, raise-sets, set-other, clear-within, nonzero}
-use Rattle.queues.proofs.Fits.{Agrees, Fits, agrees-status, no-second, zero-oldest, zero-second}
+use Rattle.bits.proofs.Words.Masks.{lower-to, lower-other, raise-sets, set-other, nonzero}
+use Rattle.queues.proofs.Fits.{Agrees, agrees-status, zero-oldest, zero-second}
 
 -- ---- how the bits of a side lie to each other: one computation for each side
 pub record Bits (w : Way) : Type 0 where

@@ -10,7 +10,7 @@ use Rattle.queues.specs.declared.queues.Way.{Way}
 use Rattle.queues.specs.declared.queues.Way.the-variants.{Transmit, Receive}
 use Rattle.queues.specs.declared.queues.Side.{Side}
 use Rattle.queues.specs.Queues.{freeFlag, waiting, secondFlag, two, uncleared, KEPT, stored, shows, completed, cleared, lowered, enabled, disabled, movedUp, gone, ended, secondCancelled, cancelled}
-use Rattle.bits.specs.Words.{pick, clear, has, raise, raiseIf, lower, setTo}
+use Rattle.bits.specs.Words.{pick, clear, has, raise, lower, setTo}
 use Rattle.bits.specs.Flags.{TMA, TA, RI, CANCEL, LOW2}
 use Rattle.bits.proofs.Words.Bools.{and-left, and-right, pick-of, pick-both}
 use Rattle.bits.proofs.Words.Masks.{lower-other, lower-clears, raise-other, raise-sets, set-other}

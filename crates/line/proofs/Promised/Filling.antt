@@ -30,7 +30,7 @@ use Rattle.card.proofs.Pages.Stored.{length-stored}
 use Rattle.card.proofs.Pages.Sent.{SentFrom}
 use Rattle.table.specs.Network.{phase, holder, TAKEN, rowAt, regsAt, shape}
 use Rattle.line.specs.Traffic.{storedRow, takes}
-use Rattle.line.specs.Outcomes.{sender, sentPage, sentShape, storingBytes, stores, rowMoves}
+use Rattle.line.specs.Outcomes.{sender, sentPage, sentShape, storingBytes, rowMoves}
 use Rattle.table.proofs.Shaped.Shapes.{shape-row-length}
 use Rattle.line.proofs.Change.Changes.{Carries, Whole, Tries, storesIt}
 use Rattle.line.proofs.Steps.Stepped.{held-row}

@@ -1,7 +1,7 @@
 -- The holder's registers as each outcome leaves them: TA, TMA, TTA and byte 13; and those of a row with CCHEN 0.
 -- Assumes nothing.
 use mathlib.Core.Path.{_≡_, refl, sym, _∙_, ap}
-use mathlib.Core.Bool.{Bool, true, false, _&&_}
+use mathlib.Core.Bool.{Bool, true, false}
 use Rattle.registers.specs.declared.regs.Regs.{Regs}
 use Rattle.line.specs.declared.traffic.Outcome.{Outcome}
 use Rattle.line.specs.declared.traffic.Outcome.the-variants.{Nothing, Malformed, Broadcast, NoAnswer, Nak, Delivered, Unacknowledged}

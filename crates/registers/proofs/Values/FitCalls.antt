@@ -17,7 +17,7 @@ use Rattle.bits.specs.Flags.{RI, POR, RECON, TMA, TA, LOW2, AUTO-INC, RESET, CC
 use Rattle.registers.specs.Fields.{with-status, with-configuration}
 use Rattle.registers.specs.Sides.{chaining, sideOf}
 use Rattle.registers.specs.Fit.{fit}
-use Rattle.registers.specs.Commands.{pageOf, commandOf}
+use Rattle.registers.specs.Commands.{commandOf}
 use Rattle.registers.specs.Registers.{sub, risen, stepped, afterRead, hardwareReset, changesChaining, configured, commanded, seventhWritten, afterWrite}
 use Rattle.registers.specs.Numbers.{REGISTER, VALUE, BUSY, PAGE, refuses}
 use Rattle.registers.specs.Refusals.{noRegister, illegal, badValue, busy, chainBusy, oddPage, writeRefusals, writeNumber}

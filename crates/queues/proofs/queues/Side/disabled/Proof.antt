@@ -1,5 +1,5 @@
 -- `queues::queues::Side::disabled` meets its contract. Assumes nothing.
-use mathlib.Core.Path.{sym, _∙_, ap}
+use mathlib.Core.Path.{sym, _∙_}
 use borrow.Author.Tests.{not-true, not-false}
 use Rattle.queues.specs.Queues.{disabled}
 use borrow.Author.Needs.{needs}
