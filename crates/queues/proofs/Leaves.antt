@@ -1,76 +1,20 @@
--- What the changes of a side leave: the flags of the status that are not its own; and what an end and the cancels make of TA, or RI, of TMA, and of what waits.
+-- What an end and the cancels make of TA, or RI, of TMA, and of what waits.
 -- Assumes nothing.
 use mathlib.Core.Path.{_≡_, refl, sym, _∙_, ap}
 use mathlib.Core.Bool.{Bool, true, false, not, _&&_, _||_}
-use Prim.Native.Nat.{ℕ, _+_, _-_}
-use lib.Bits.{bitAnd}
+use Prim.Native.Nat.{ℕ, _-_}
 use lib.Dec.{eqb, lit<}
 use borrow.Author.Tests.{eqb-true}
 use Rattle.queues.specs.declared.queues.Way.{Way}
 use Rattle.queues.specs.declared.queues.Way.the-variants.{Transmit, Receive}
 use Rattle.queues.specs.declared.queues.Side.{Side}
-use Rattle.queues.specs.Queues.{freeFlag, waiting, secondFlag, two, uncleared, KEPT, stored, shows, completed, cleared, lowered, enabled, disabled, movedUp, gone, ended, secondCancelled, cancelled}
+use Rattle.queues.specs.Queues.{freeFlag, waiting, secondFlag, two, uncleared, stored, completed, movedUp, gone, ended, secondCancelled, cancelled}
 use Rattle.bits.specs.Words.{pick, clear, has, raise, lower, setTo}
 use Rattle.bits.specs.Flags.{TMA, TA, RI, CANCEL, LOW2}
 use Rattle.bits.proofs.Words.Bools.{and-left, and-right, pick-of, pick-both}
-use Rattle.bits.proofs.Words.Masks.{lower-other, lower-clears, raise-other, raise-sets, set-other}
+use Rattle.bits.proofs.Words.Masks.{lower-clears, raise-other, raise-sets}
 use Rattle.queues.proofs.Fits.{Agrees, no-second}
 use Rattle.queues.proofs.Going.{behind-waits, alone, shows-free}
-
--- ---- the flags m that no change of the side speaks of
-abbrev pub Apart : Way → ℕ → Type 0
-Apart Transmit m =
-    (bitAnd TA m ≡ 0) × (bitAnd TMA m ≡ 0) × (bitAnd (255 - TA) m ≡ m) × (bitAnd (255 - TMA) m ≡ m) × (bitAnd (255 - (TA + TMA)) m ≡ m)
-Apart Receive m = (bitAnd RI m ≡ 0) × (bitAnd (255 - RI) m ≡ m)
-
-module _ (m x : ℕ) where
-  raised : (w : Way) → Apart w m → clear m (raise (freeFlag w) x) ≡ clear m x
-  raised Transmit p = raise-other m TA x (p .0)
-  raised Receive p = raise-other m RI x (p .0)
-
-  lowers : (w : Way) (s : Side) → Apart w m → clear m (lower (lowered w (s .queue)) x) ≡ clear m x
-  lowers Transmit s p =
-      pick-of (λ (k : ℕ). clear m (lower k x) ≡ clear m x) (uncleared (s .queue)) (λ _. lower-other m TA x (p .2)) (λ _. lower-other m (TA + TMA) x (p .4))
-  lowers Receive s p = lower-other m RI x (p .1)
-
-  showing : (w : Way) (b : Bool) → Apart w m → clear m (shows w b x) ≡ clear m x
-  showing Transmit b p = set-other m TMA x b (p .1) (p .3)
-  showing Receive b p = refl
-
-raised-free : (w : Way) (x : ℕ) → clear (freeFlag w) (raise (freeFlag w) x) ≡ false
-raised-free Transmit x = raise-sets TA TA x (lit< tt)
-raised-free Receive x = raise-sets RI RI x (lit< tt)
-
-module _ (w : Way) (m : ℕ) (p : Apart w m) (s : Side) where
-  abbrev Left : Side → Type 0
-  Left t = clear m (t .status) ≡ clear m (s .status)
-
-  gone-apart : Left (gone w s)
-  gone-apart = pick-of Left (two w (s .queue)) (λ _. refl) (λ _. raised m (s .status) w p)
-
-  completed-apart : (c b : Bool) → Left (completed w c b s)
-  completed-apart c b = pick-of Left (c && uncleared (s .queue)) (λ _. refl) (λ _. showing m (s .status) w b p)
-
-  pub enabled-apart : (c : Bool) (entry : ℕ) → Left (enabled w c entry s)
-  unfolding enabled
-  enabled-apart c entry = pick-of Left (c && waiting w s) (λ _. refl) (λ _. lowers m (s .status) w s p)
-
-  pub disabled-apart : Left (disabled w s)
-  unfolding disabled
-  disabled-apart = pick-of Left (waiting w s) (λ _. pick-of Left (two w (s .queue) && has CANCEL (s .queue .oldest)) (λ _. refl) (λ _. refl)) (λ _. refl)
-
-  pub cleared-apart : Left (cleared w s)
-  unfolding cleared
-  cleared-apart = pick-of Left (uncleared (s .queue)) (λ _. showing m (s .status) w (has KEPT (s .queue .done)) p) (λ _. refl)
-
-module _ (w : Way) (m : ℕ) (p : Apart w m) (s : Side) where
-  pub ended-apart : (c b : Bool) → Left w m p s (ended w c b s)
-  unfolding ended
-  ended-apart c b = gone-apart w m p (completed w c b s) ∙ completed-apart w m p s c b
-
-  pub cancelled-apart : Left w m p s (cancelled w s)
-  unfolding cancelled
-  cancelled-apart = pick-of (Left w m p s) (clear CANCEL (s .queue .oldest)) (λ _. refl) (λ _. gone-apart w m p (secondCancelled s))
 
 -- ---- what waits: nothing behind a side that is free, and nothing to move up where none waits behind
 module _ (w : Way) {c : Bool} {l : ℕ} (s : Side) (a : Agrees w c l s) where
@@ -95,6 +39,10 @@ module _ (w : Way) {c : Bool} {l : ℕ} (s : Side) (a : Agrees w c l s) where
       (eqb-true (s .queue .second) 0 (and-left (eqb (s .queue .second) 0) (eqb (s .queue .done) 0) h), eqb-true (s .queue .done) 0 (and-right (eqb (s .queue .second) 0) (eqb (s .queue .done) 0) h))
 
 -- ---- an end of the oldest
+raised-free : (w : Way) (x : ℕ) → clear (freeFlag w) (raise (freeFlag w) x) ≡ false
+raised-free Transmit x = raise-sets TA TA x (lit< tt)
+raised-free Receive x = raise-sets RI RI x (lit< tt)
+
 module _ (w : Way) (c b : Bool) (s : Side) where
   -- TA, or RI, is 1 where none waits behind it; else the second has moved up. It is told in a chaining row
   pub record Ended (t : Side) : Type 0 where

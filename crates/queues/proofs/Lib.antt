@@ -1,5 +1,6 @@
 pub mod Fits
 pub mod Going
 pub mod Changes
+pub mod Apart
 pub mod Leaves
 pub mod Plain

@@ -2,10 +2,13 @@
 pub mod Fits
 pub mod FitBytes
 pub mod FitEvents
+pub mod FitCommands
 pub mod FitCalls
 pub mod SameCard
 pub mod Keeps
+pub mod KeepsCalls
 pub mod Unqueued
+pub mod Chained
 pub mod Ends
 pub mod Listens
 pub mod Loads

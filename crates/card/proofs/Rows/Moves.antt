@@ -17,8 +17,10 @@ use Rattle.registers.specs.Layout.{at-id, at-received, at-fetched, at-nak-high,
 use Rattle.registers.specs.Sides.{chaining}
 use Rattle.registers.specs.Registers.{hardwareReset}
 use Rattle.bits.proofs.Words.Bools.{cases, and-left, and-right, and-true, and-false, or-left, or-right, pick-of}
-use Rattle.registers.proofs.Values.Keeps.{Keeps, keeps-read}
-use Rattle.registers.proofs.Values.Unqueued.{unqueued-fit, keeps-changes, keeps-hardware}
+use Rattle.registers.proofs.Values.Keeps.{Keeps}
+use Rattle.registers.proofs.Values.KeepsCalls.{keeps-read}
+use Rattle.registers.proofs.Values.Unqueued.{unqueued-fit}
+use Rattle.registers.proofs.Values.Chained.{keeps-changes, keeps-hardware}
 use Rattle.card.specs.Row.{registerBytes, rowBytes, regsOf, putRegs, wellFormed}
 use Rattle.card.specs.Access.{pointed, rowAfterRead, ramWritten, rowAfterWrite, rowAfterReset}
 use Rattle.card.specs.Packets.{dataAt, headBytes, pageBytes, pageAt, stored, stamped}

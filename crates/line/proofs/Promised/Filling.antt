@@ -19,7 +19,8 @@ use Rattle.card.specs.Moves.{OnlyAt, inPacket}
 use Rattle.bits.proofs.Words.Bools.{and-left, and-right, or-left, or-right}
 use Rattle.registers.proofs.Values.Fits.{Fit, fit-rules}
 use Rattle.registers.proofs.Values.Keeps.{Keeps, keeps-received}
-use Rattle.registers.proofs.Values.Unqueued.{keeps-chained, unqueued-fit, unqueued-received}
+use Rattle.registers.proofs.Values.Unqueued.{unqueued-fit, unqueued-received}
+use Rattle.registers.proofs.Values.Chained.{keeps-chained}
 use Rattle.registers.proofs.Values.Ends.{transmit-page-small}
 use Rattle.registers.proofs.Values.Listens.{takes-same, receive-page-same}
 use Rattle.card.proofs.Rows.Bytes.{well-fit}

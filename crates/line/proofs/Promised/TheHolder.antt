@@ -2,7 +2,7 @@
 -- Assumes nothing.
 use mathlib.Core.Path.{_≡_, refl, sym, _∙_, ap}
 use mathlib.Core.Bool.{Bool, true, false, not, _&&_, _||_}
-use mathlib.Core.List.{List, [], _∷_}
+use mathlib.Core.List.{List, _∷_}
 use mathlib.Core.Logic.{⊎-elim}
 use Prim.Native.Nat.{ℕ, _≤_}
 use native.Mathlib.Omega.{arith}
@@ -24,7 +24,8 @@ use Rattle.card.specs.Packets.{pageAt, storable}
 use Rattle.card.specs.Moves.{OnlyAt}
 use Rattle.bits.proofs.Words.Bools.{cases, and-left, and-right, or-left, or-right, pick-of}
 use Rattle.registers.proofs.Values.Fits.{Fit, fit-rules, rules-fit}
-use Rattle.registers.proofs.Values.Unqueued.{keeps-chained, unqueued-fit}
+use Rattle.registers.proofs.Values.Unqueued.{unqueued-fit}
+use Rattle.registers.proofs.Values.Chained.{keeps-chained}
 use Rattle.registers.proofs.Values.Keeps.{Keeps, keeps-same, keeps-cancelled, keeps-enquired, keeps-heard-sent, keeps-sent}
 use Rattle.card.proofs.Rows.Bytes.{regs-put, well-fit}
 use Rattle.card.proofs.Rows.WellFormed.{regs-stamped}

@@ -15,6 +15,7 @@ use Rattle.queues.specs.Queues.{two, movedUp}
 use Rattle.registers.specs.Sides.{chaining, sideOf, tta}
 use Rattle.registers.specs.Events.{heard, received, transmitCancelled, cancelled, sent, transmitting, transmitPage, receiving, enquired, receivePage}
 use Rattle.bits.proofs.Words.Bools.{or-first}
+use Rattle.queues.proofs.Apart.{cancelled-apart}
 use Rattle.queues.proofs.Leaves as leaves
 use Rattle.registers.proofs.Values.Fits.{Fit}
 
@@ -92,7 +93,7 @@ module _ (g : Regs) where
   pub cancelled-tma : has TMA (cancelled g .status) ≡ has TMA (g .status)
   unfolding cancelled
   cancelled-tma =
-      ap not (leaves.cancelled-apart Receive TMA (refl, refl) (sideOf Receive (transmitCancelled g)) ∙ leaves.cancelled-tma (sideOf Transmit g))
+      ap not (cancelled-apart Receive TMA (refl, refl) (sideOf Receive (transmitCancelled g)) ∙ leaves.cancelled-tma (sideOf Transmit g))
 
   pub cancelled-tta : tta (cancelled g) ≡ tta g
   unfolding cancelled

@@ -15,7 +15,7 @@ use Rattle.registers.specs.Sides.{chaining, sideOf, withSide}
 use Rattle.bits.proofs.Words.Table.{by-table}
 use Rattle.bits.proofs.Words.Masks.{lower-other, raise-other}
 use Rattle.queues.proofs.Fits.{Fits, fits-status, fits-long}
-use Rattle.queues.proofs.Leaves.{Apart}
+use Rattle.queues.proofs.Apart.{Apart}
 use Rattle.registers.proofs.Values.Fits.{Fit}
 
 -- the bits 1-0 alone are within any byte that has them

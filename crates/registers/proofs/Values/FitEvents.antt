@@ -16,7 +16,7 @@ use Rattle.registers.specs.Events.{burst, recovered, heard, answered, ri
 use Rattle.bits.proofs.Words.Bools.{pick-of}
 use Rattle.bits.proofs.Words.Masks.{raise-other}
 use Rattle.queues.proofs.Changes.{fits-ended, fits-cancelled}
-use Rattle.queues.proofs.Leaves.{ended-apart, cancelled-apart}
+use Rattle.queues.proofs.Apart.{ended-apart, cancelled-apart}
 use Rattle.registers.proofs.Values.Fits.{Fit}
 use Rattle.registers.proofs.Values.FitBytes as keeps
 

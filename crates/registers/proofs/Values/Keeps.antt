@@ -1,28 +1,22 @@
--- Which register bytes each access and each event of the line may change: all others are kept.
+-- Which register bytes each event of the line may change: all others are kept.
 -- Assumes nothing.
 use mathlib.Core.Path.{_≡_, refl, sym, _∙_, ap}
 use mathlib.Core.Bool.{Bool, true, false, _&&_, true≢false}
 use mathlib.Core.List.{List, [], _∷_}
 use Prim.Native.Nat.{ℕ, suc, _+_}
 use native.Mathlib.Omega.{arith}
-use lib.Dec.{eqb}
 use lib.ListN.{getD, set}
 use lib.Seq.{getD-set-other}
 use Rattle.queues.specs.declared.queues.Way.{Way}
 use Rattle.queues.specs.declared.queues.Way.the-variants.{Transmit, Receive}
 use Rattle.queues.specs.declared.queues.Side.{Side}
 use Rattle.registers.specs.declared.regs.Regs.{Regs}
-use Rattle.registers.specs.declared.commands.Command.{Command}
-use Rattle.registers.specs.declared.commands.Command.the-variants.{Illegal, DisableTransmitter, DisableReceiver, EnableTransmit, EnableReceive, LongPackets, ClearFlags, ClearTransmit, ClearReceive}
-use Rattle.bits.specs.Words.{pick, clear, has, among}
-use Rattle.bits.specs.Flags.{RESET, AUTO-INC}
+use Rattle.bits.specs.Words.{among}
 use Rattle.queues.specs.Queues as queues
 use Rattle.registers.specs.Sides.{sideOf, withSide}
-use Rattle.registers.specs.Commands.{commandOf}
-use Rattle.registers.specs.Registers.{sub, stepped, afterRead, softwareReset, changesChaining, rechained, configured, commanded, seventhWritten, afterWrite}
-use Rattle.registers.specs.Layout.{at-id, at-status, at-diagnostic, at-mask, at-configuration, at-setup, at-tentative, at-nid, at-high, at-low, at-mode, at-transmit, at-receive, at-long, at-second-transmit, at-second-receive, at-sent, at-received, at-fetched, bytesOf, laterOf, transmitBytes, receiveBytes, queueBytes, resetBytes, readChanges, writeBytes}
+use Rattle.registers.specs.Layout.{at-id, at-status, at-diagnostic, at-nid, at-transmit, at-receive, at-second-transmit, at-second-receive, at-sent, at-received, at-fetched, bytesOf, laterOf, transmitBytes, receiveBytes, resetBytes}
 use Rattle.registers.specs.Events.{burst, recovered, heard, answered, risenNid, received, transmitCancelled, cancelled, sent, enquired}
-use Rattle.bits.proofs.Words.Bools.{and-left, and-right, pick-of, pick-both}
+use Rattle.bits.proofs.Words.Bools.{and-left, and-right, pick-of}
 use Rattle.queues.proofs.Leaves.{cancelled-done}
 
 -- the registers h are those of g but for the bytes l
@@ -33,7 +27,7 @@ pub record Keeps (l : List ℕ) (g h : Regs) : Type 0 where
 pub keeps-same : (l : List ℕ) (g : Regs) → Keeps l g g
 keeps-same l g = record { kept = λ k e. refl; later = λ k e. refl }
 
-keeps-then : {l : List ℕ} (g h i : Regs) → Keeps l g h → Keeps l h i → Keeps l g i
+pub keeps-then : {l : List ℕ} (g h i : Regs) → Keeps l g h → Keeps l h i → Keeps l g i
 keeps-then g h i a b = record { kept = λ k e. b .kept k e ∙ a .kept k e; later = λ k e. b .later k e ∙ a .later k e }
 
 -- the bytes m are all of the list l
@@ -63,7 +57,7 @@ row g = 0 ∷ 0 ∷ bytesOf g
 pub row-at : (k : ℕ) → at-id + k ≡ suc (suc k)
 row-at k = omega arith
 
-keeps-puts : (l : List ℕ) (g h : Regs) (n : List (ℕ × ℕ)) → within (places n) l ≡ true → row h ≡ puts n (row g) → laterOf h ≡ laterOf g → Keeps l g h
+pub keeps-puts : (l : List ℕ) (g h : Regs) (n : List (ℕ × ℕ)) → within (places n) l ≡ true → row h ≡ puts n (row g) → laterOf h ≡ laterOf g → Keeps l g h
 keeps-puts l g h n u e j = record {
   kept = λ k f. ap (λ (b : List ℕ). getD b (suc (suc k)) 0) e ∙ puts-other l n (row g) (suc (suc k)) u (rw (row-at k) at f);
   later = λ k f. ap (λ (b : List ℕ). getD b k 0) j;
@@ -84,7 +78,7 @@ sideBytes Receive = at-status ∷ receiveBytes true
 
 -- ---- what the line does, where the bytes that it writes are of the list
 module _ (l : List ℕ) (g : Regs) where
-  keeps-side : (w : Way) → within (sideBytes w) l ≡ true → (s : Side) → Keeps l g (withSide w s g)
+  pub keeps-side : (w : Way) → within (sideBytes w) l ≡ true → (s : Side) → Keeps l g (withSide w s g)
   keeps-side Transmit u s = keeps-puts l g _ ((at-status, _) ∷ (at-transmit, _) ∷ (at-second-transmit, _) ∷ (at-sent, _) ∷ []) u refl refl
   keeps-side Receive u s = keeps-puts l g _ ((at-status, _) ∷ (at-receive, _) ∷ (at-second-receive, _) ∷ (at-received, _) ∷ []) u refl refl
 
@@ -140,60 +134,3 @@ module _ (l : List ℕ) (g : Regs) (u : within (at-diagnostic ∷ sideBytes Tran
 
   pub keeps-heard-sent : (a : Bool) → Keeps l g (sent (heard g false) a)
   keeps-heard-sent a = keeps-then g (heard g false) _ (answer false) (keeps-sent l (heard g false) own a)
-
--- ---- the accesses
-module _ (g : Regs) where
-  abbrev By : List ℕ → Regs → Type 0
-  By l h = Keeps l g h
-
-  keeps-stepped : By (at-high ∷ at-low ∷ []) (stepped g)
-  unfolding stepped
-  keeps-stepped =
-      pick-of (By (at-high ∷ at-low ∷ [])) (has AUTO-INC (g .mode)) (λ _. keeps-puts _ g _ ((at-high, _) ∷ (at-low, _) ∷ []) refl refl refl) (λ _. keeps-same _ g)
-
-  pub keeps-read : (k : ℕ) → By (readChanges k) (afterRead g k)
-  unfolding afterRead
-  keeps-read k = pick-both By (eqb k 1) (keeps-puts _ g _ ((at-diagnostic, 0) ∷ []) refl refl refl) (pick-both By (eqb k 4) keeps-stepped (keeps-same _ g))
-
-  keeps-commanded : (c : Command) → By (at-status ∷ at-long ∷ queueBytes true) (commanded g c)
-  unfolding commanded
-  keeps-commanded Illegal = keeps-same _ g
-  keeps-commanded DisableTransmitter = keeps-side _ g Transmit refl _
-  keeps-commanded DisableReceiver = keeps-side _ g Receive refl _
-  keeps-commanded (EnableTransmit p) = keeps-side _ g Transmit refl _
-  keeps-commanded (EnableReceive p b) = keeps-side _ g Receive refl _
-  keeps-commanded (LongPackets x) = keeps-puts _ g _ ((at-long, x) ∷ []) refl refl refl
-  keeps-commanded (ClearFlags p r) = keeps-puts _ g _ ((at-status, _) ∷ []) refl refl refl
-  keeps-commanded ClearTransmit = keeps-side _ g Transmit refl _
-  keeps-commanded ClearReceive = keeps-side _ g Receive refl _
-
-  abbrev reset : List ℕ
-  reset = at-configuration ∷ at-status ∷ at-diagnostic ∷ at-mask ∷ at-long ∷ queueBytes true
-
-  -- both queues are emptied
-  abbrev emptied : List (ℕ × ℕ)
-  emptied = (at-transmit, 0) ∷ (at-second-transmit, 0) ∷ (at-sent, 0) ∷ (at-receive, 0) ∷ (at-second-receive, 0) ∷ (at-received, 0) ∷ []
-
-  keeps-configured : (v : ℕ) → By reset (configured g v)
-  unfolding configured
-  keeps-configured v =
-      let h = pick (clear RESET v) (rechained g v) (softwareReset g) in
-      keeps-then g h _
-      (pick-of (By reset) (clear RESET v)
-      (λ _. pick-of (By reset) (changesChaining g v) (λ _. keeps-puts reset g _ emptied refl refl refl) (λ _. keeps-same reset g))
-      (λ _. keeps-puts reset g _ ((at-status, _) ∷ (at-diagnostic, 0) ∷ (at-mask, 0) ∷ (at-long, 0) ∷ emptied) refl refl refl))
-      (keeps-puts reset h _ ((at-configuration, v) ∷ []) refl refl refl)
-
-  pub keeps-write : (k v : ℕ) → By (writeBytes true g k) (afterWrite g k v)
-  unfolding afterWrite seventhWritten
-  keeps-write k v =
-      pick-both By (eqb k 0) (keeps-puts _ g _ ((at-mask, v) ∷ []) refl refl refl)
-      (pick-both By (eqb k 1) (keeps-commanded (commandOf v))
-      (pick-both By (eqb k 2) (keeps-puts _ g _ ((at-mode, v) ∷ []) refl refl refl)
-      (pick-both By (eqb k 3) (keeps-puts _ g _ ((at-high, _) ∷ (at-low, v) ∷ []) refl refl refl)
-      (pick-both By (eqb k 4) keeps-stepped
-      (pick-both By (eqb k 6) (keeps-configured v)
-      (pick-both By (eqb k 7)
-      (pick-both By (eqb (sub g) 0) (keeps-puts _ g _ ((at-tentative, v) ∷ []) refl refl refl)
-      (pick-both By (eqb (sub g) 1) (keeps-puts _ g _ ((at-id, v) ∷ []) refl refl refl) (keeps-puts _ g _ ((at-setup, v) ∷ []) refl refl refl)))
-      (keeps-same _ g)))))))

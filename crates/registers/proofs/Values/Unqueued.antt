@@ -1,92 +1,30 @@
--- A row with CCHEN 0: each change is that of document 01 alone, and nothing is in its bytes 16 to 19, before it and after. So they are kept, and a list of changed
--- bytes goes without them.
+-- A row with CCHEN 0: each change is that of document 01 alone, and nothing is in its bytes 16 to 19, before it and after.
 -- Assumes nothing.
-use mathlib.Core.Path.{_≡_, refl, sym, _∙_, ap}
-use mathlib.Core.Bool.{Bool, true, false, _&&_, _||_, true≢false}
-use mathlib.Core.List.{List, [], _∷_}
-use mathlib.Core.Logic.{⊎-elim}
-use Prim.Native.Nat.{ℕ, suc, _+_, _<_}
-use native.Mathlib.Omega.{arith}
-use borrow.Author.Tests.{eqb-true}
-use lib.Dec.{eqb, lit<}
-use lib.ListN.{getD}
+use mathlib.Core.Path.{_≡_, refl, _∙_, ap}
+use mathlib.Core.Bool.{Bool, true, false, _&&_}
+use Prim.Native.Nat.{ℕ}
+use lib.Dec.{eqb}
 use Rattle.queues.specs.declared.queues.Way.the-variants.{Transmit, Receive}
 use Rattle.queues.specs.declared.queues.Side.{Side}
 use Rattle.registers.specs.declared.regs.Regs.{Regs}
 use Rattle.registers.specs.declared.commands.Command.{Command}
 use Rattle.registers.specs.declared.commands.Command.the-variants.{Illegal, DisableTransmitter, DisableReceiver, EnableTransmit, EnableReceive, LongPackets, ClearFlags, ClearTransmit, ClearReceive}
-use Rattle.bits.specs.Words.{pick, clear, has, raiseIf, all, among}
+use Rattle.bits.specs.Words.{clear, has, raiseIf, all}
 use Rattle.bits.specs.Flags.{RESET, AUTO-INC, CANCEL, BROADCASTS}
 use Rattle.queues.specs.Queues as queues
 use Rattle.registers.specs.Sides.{chaining, sideOf, withSide}
 use Rattle.registers.specs.Fields.{with-configuration}
 use Rattle.registers.specs.Fit.{named, fit}
 use Rattle.registers.specs.Commands.{commandOf}
-use Rattle.registers.specs.Registers.{sub, stepped, hardwareReset, changesChaining, configured, commanded, seventhWritten, afterWrite}
-use Rattle.registers.specs.Layout.{resetBytes, at-second-transmit, at-second-receive, at-sent, at-received, at-fetched, writeBytes, writeChanges}
+use Rattle.registers.specs.Registers.{sub, stepped, changesChaining, configured, commanded, seventhWritten, afterWrite}
 use Rattle.registers.specs.Events.{received, transmitCancelled, receiveCancelled, cancelled, sent}
 use Rattle.registers.specs.Plain.{plainCommanded, plainReceived, plainTransmitCancelled, plainReceiveCancelled, plainSent}
-use Rattle.bits.proofs.Words.Bools.{cases, and-left, and-right, or-left, or-right, pick-of, pick-both}
+use Rattle.bits.proofs.Words.Bools.{and-left, and-right, pick-of, pick-both}
 use Rattle.queues.proofs.Plain.{Alone, alone-fit, plain-ended, plain-cleared, plain-enabled, plain-disabled, plain-cancelled}
-use Rattle.registers.proofs.Values.Keeps.{Keeps, row, row-at, keeps-write, keeps-all}
-use Rattle.registers.proofs.Values.Fits.{fit-rules}
 
 pub record Unqueued (g : Regs) : Type 0 where
   pub transmit : Alone (g .transmit)
   pub receive : Alone (g .receive)
-
--- ---- the bytes of a chaining row alone
-abbrev chained : List ℕ
-chained = at-second-transmit ∷ at-second-receive ∷ at-sent ∷ at-received ∷ []
-
--- a list without them
-abbrev pub plain : List ℕ → List ℕ
-plain [] = []
-plain (a ∷ l) = pick (among chained a) (plain l) (a ∷ plain l)
-
-unlisted : (l : List ℕ) (i : ℕ) → among chained i ≡ false → among (plain l) i ≡ false → among l i ≡ false
-unlisted [] i n f = refl
-unlisted (a ∷ l) i n f =
-    ⊎-elim (λ (t : among chained a ≡ true). rw (differs t) (unlisted l i n (rw t at f)))
-    (λ (t : among chained a ≡ false). let e : (eqb i a || among (plain l) i) ≡ false = rw t at f in
-    rw (or-left (eqb i a) _ e) (unlisted l i n (or-right (eqb i a) _ e))) (cases (among chained a))
-  where
-    differs : among chained a ≡ true → eqb i a ≡ false
-    differs t =
-        ⊎-elim (λ (e : eqb i a ≡ true). absurd (true≢false (sym t ∙ ap (among chained) (sym (eqb-true i a e)) ∙ n))) (λ (e : eqb i a ≡ false). e) (cases (eqb i a))
-
--- what holds of the four holds of each that is among them
-of-chained : (P : ℕ → Type 0) → P at-second-transmit → P at-second-receive → P at-sent → P at-received → (i : ℕ) → among chained i ≡ true → P i
-of-chained P a b c d i h =
-    ⊎-elim (λ (t : eqb i at-second-transmit ≡ true). rw (eqb-true i _ t) a)
-    (λ (n : eqb i at-second-transmit ≡ false). ⊎-elim (λ (t : eqb i at-second-receive ≡ true). rw (eqb-true i _ t) b)
-    (λ (m : eqb i at-second-receive ≡ false). ⊎-elim (λ (t : eqb i at-sent ≡ true). rw (eqb-true i _ t) c)
-    (λ (k : eqb i at-sent ≡ false). ⊎-elim (λ (t : eqb i at-received ≡ true). rw (eqb-true i _ t) d)
-    (λ (j : eqb i at-received ≡ false). absurd (true≢false (sym h ∙ rw (n, m, k, j)))) (cases (eqb i at-received))) (cases (eqb i at-sent))) (cases (eqb i at-second-receive)))
-    (cases (eqb i at-second-transmit))
-
-module _ (g h : Regs) (u : Unqueued g) (v : Unqueued h) where
-  same : (i : ℕ) → among chained i ≡ true → getD (row h) i 0 ≡ getD (row g) i 0
-  same =
-      of-chained (λ (i : ℕ). getD (row h) i 0 ≡ getD (row g) i 0) (v .transmit .second ∙ sym (u .transmit .second)) (v .receive .second ∙ sym (u .receive .second))
-      (v .transmit .done ∙ sym (u .transmit .done)) (v .receive .done ∙ sym (u .receive .done))
-
-  pub keeps-plain : (l : List ℕ) → Keeps l g h → Keeps (plain l) g h
-  keeps-plain l q = record {
-    kept = λ k f. ⊎-elim (λ (t : among chained (suc (suc k)) ≡ true). same (suc (suc k)) t)
-        (λ (t : among chained (suc (suc k)) ≡ false). q .kept k (unlisted l _ (rw (row-at k) t) f)) (cases (among chained (suc (suc k))));
-    later = λ k f. q .later k (unlisted l _ (apart k) f);
-  }
-    where
-      apart : (k : ℕ) → among chained (at-fetched + k) ≡ false
-      apart k =
-          ⊎-elim (λ (t : among chained (at-fetched + k) ≡ true). absurd (let b = of-chained (λ (i : ℕ). i < at-fetched) (lit< tt) (lit< tt) (lit< tt) (lit< tt) (at-fetched + k) t in omega arith))
-          (λ (t : among chained (at-fetched + k) ≡ false). t) (cases (among chained (at-fetched + k)))
-
--- a list that goes by CCHEN
-pub keeps-chained : (c : Bool) (l : Bool → List ℕ) → plain (l true) ≡ l false → (g h : Regs) → (c ≡ false → Unqueued g × Unqueued h) → Keeps (l true) g h → Keeps (l c) g h
-keeps-chained true l e g h u q = q
-keeps-chained false l e g h u q = rw (sym e) (keeps-plain g h (u refl .0) (u refl .1) (l true) q)
 
 -- ---- which rows those are, and what leaves them so
 module _ (g : Regs) (c : chaining g ≡ false) where
@@ -123,9 +61,6 @@ module _ (g : Regs) (c : chaining g ≡ false) where
 
     pub unqueued-received : Unqueued (received g)
     unqueued-received = rw received-plain (search u)
-
-    pub unqueued-sent : (a : Bool) → Unqueued (sent g a)
-    unqueued-sent a = rw (sent-plain a) (search u)
 
     unqueued-commanded : (k : Command) → Unqueued (commanded g k)
     unqueued-commanded k = rw (commanded-plain k) (stays k)
@@ -176,22 +111,3 @@ unqueued-cancelled g u =
     let h = plainTransmitCancelled g in
     let v : Unqueued h = pick-of Unqueued (clear CANCEL (g .transmit .oldest)) (λ _. u) (λ _. search u) in
     rw (cancelled-plain g u) (pick-of Unqueued (clear CANCEL (h .receive .oldest)) (λ _. v) (λ _. search v))
-
--- ---- a write, by CCHEN as it was
-plain-writes : (g : Regs) (k : ℕ) → plain (writeBytes true g k) ≡ writeBytes false g k
-plain-writes g k =
-    let P : List ℕ → List ℕ → Type 0 = λ x y. plain x ≡ y in
-    pick-both P (eqb k 0) refl (pick-both P (eqb k 1) refl (pick-both P (eqb k 2) refl (pick-both P (eqb k 3) refl (pick-both P (eqb k 4) refl
-    (pick-both P (eqb k 6) refl (pick-both P (eqb k 7) (pick-both P (eqb (sub g) 0) refl (pick-both P (eqb (sub g) 1) refl refl)) refl))))))
-
-pub keeps-changes : (g : Regs) → (chaining g ≡ false → Unqueued g) → (k v : ℕ) → Keeps (writeChanges g k) g (afterWrite g k v)
-keeps-changes g u k v =
-    keeps-chained (chaining g) (λ c. writeBytes c g k) (plain-writes g k) g (afterWrite g k v) (λ c. (u c, unqueued-write g c (u c) k v)) (keeps-write g k v)
-
--- ---- a hardware reset
-pub keeps-hardware : (g : Regs) → fit g ≡ true → Keeps (resetBytes (chaining g)) g hardwareReset
-unfolding hardwareReset
-keeps-hardware g f =
-    let r = fit-rules g f in
-    keeps-chained (chaining g) resetBytes refl g hardwareReset (λ c. (unqueued-fit g c f, search))
-    (keeps-all g hardwareReset (rw (eqb-true (g .later .fetched) 0 (r .fetched), eqb-true (g .later .naklow) 0 (r .naklow), eqb-true (g .later .nakhigh) 0 (r .nakhigh))))

@@ -1,0 +1,96 @@
+-- Registers that fit stay so through a command that is not refused.
+-- Assumes nothing.
+use mathlib.Core.Path.{_≡_, refl, _∙_}
+use mathlib.Core.Bool.{Bool, true, false, not, _&&_, _||_}
+use Prim.Native.Nat.{ℕ, _-_, _<_}
+use native.Mathlib.Omega.{arith}
+use lib.Bits.{bitAnd}
+use lib.Dec.{eqb}
+use Rattle.queues.specs.declared.queues.Way.the-variants.{Transmit, Receive}
+use Rattle.queues.specs.declared.queues.Side.{Side}
+use Rattle.registers.specs.declared.regs.Regs.{Regs}
+use Rattle.registers.specs.declared.commands.Command.{Command}
+use Rattle.registers.specs.declared.commands.Command.the-variants.{Illegal, DisableTransmitter, DisableReceiver, EnableTransmit, EnableReceive, LongPackets, ClearFlags, ClearTransmit, ClearReceive}
+use Rattle.bits.specs.Words.{pick, clear, raiseIf, lower}
+use Rattle.bits.specs.Flags.{RI, POR, RECON, TMA, TA, BROADCASTS, only, statusBits, transmitBits, receiveBits}
+use Rattle.registers.specs.Fields.{with-status}
+use Rattle.registers.specs.Sides.{chaining, sideOf}
+use Rattle.registers.specs.Commands.{commandOf}
+use Rattle.registers.specs.Registers.{commanded}
+use Rattle.registers.specs.Refusals.{busy, oddPage}
+use Rattle.bits.proofs.Words.Bools.{or-left, or-right, pick-of}
+use Rattle.bits.proofs.Words.Table.{by-table}
+use Rattle.bits.proofs.Words.Masks.{raise-other}
+use Rattle.queues.proofs.Changes.{fits-enabled, fits-disabled, fits-cleared}
+use Rattle.queues.proofs.Apart.{enabled-apart, disabled-apart, cleared-apart}
+use Rattle.registers.proofs.Values.Fits.{Fit}
+use Rattle.registers.proofs.Values.FitBytes as keeps
+
+-- the page and the flag of a decoded command are small
+abbrev pub Small : Command → Type 0
+Small Illegal = Unit
+Small DisableTransmitter = Unit
+Small DisableReceiver = Unit
+Small (EnableTransmit p) = p < 4
+Small (EnableReceive p b) = p < 4
+Small (LongPackets l) = l < 2
+Small (ClearFlags p r) = Unit
+Small ClearTransmit = Unit
+Small ClearReceive = Unit
+
+pub small : (c : ℕ) → Small (commandOf c)
+unfolding commandOf
+small c =
+    pick-of Small (eqb c 0x00) (λ _. tt)
+    (λ _. pick-of Small (eqb c 0x08) (λ _. tt)
+    (λ _. pick-of Small (eqb c 0x01) (λ _. tt)
+    (λ _. pick-of Small (eqb c 0x02) (λ _. tt)
+    (λ _. pick-of Small (eqb (bitAnd c 0xd7) 0x03) (λ _. omega arith)
+    (λ _. pick-of Small (eqb (bitAnd c 0x57) 0x04) (λ _. omega arith)
+    (λ _. pick-of Small (eqb (bitAnd c 0xf7) 0x05) (λ _. omega arith)
+    (λ _. pick-of Small (eqb (bitAnd c 0xe7) 0x06) (λ _. tt) (λ _. tt))))))))
+
+-- a flag that is cleared where b says so
+flag : (g : Regs) → Fit g → (b : Bool) (m : ℕ) → bitAnd (255 - m) (255 - statusBits) ≡ 255 - statusBits → bitAnd (255 - m) TA ≡ TA
+    → bitAnd (255 - m) RI ≡ RI → bitAnd (255 - m) TMA ≡ TMA → Fit (with-status (lower (pick b m 0) (g .status)) g)
+flag g f true m e ta ri tma = keeps.fit-lower g f m e ta ri tma
+flag g f false m e ta ri tma = keeps.fit-lower g f 0 refl refl refl refl
+
+-- PAGE refuses what the even-page rule forbids
+even-page : (even long : Bool) → (not even && long) ≡ false → (not long || even) ≡ true
+even-page true true h = refl
+even-page true false h = refl
+even-page false true h = cc
+even-page false false h = refl
+
+-- a receive page with its broadcasts bit
+wanted : (p : ℕ) → only receiveBits p ≡ true → (b : Bool) → (only receiveBits (raiseIf b BROADCASTS p) ≡ true) × (clear 1 (raiseIf b BROADCASTS p) ≡ clear 1 p)
+wanted p w true = (raise-other (255 - receiveBits) BROADCASTS p refl ∙ w, raise-other 1 BROADCASTS p refl)
+wanted p w false = (w, refl)
+
+module _ (g : Regs) (f : Fit g) where
+  abbrev t : Side
+  t = sideOf Transmit g
+
+  abbrev r : Side
+  r = sideOf Receive g
+
+  pub fit-commanded : (c : Command) → Small c → busy g c ≡ false → oddPage g c ≡ false → Fit (commanded g c)
+  unfolding commanded
+  fit-commanded Illegal s b o = f
+  fit-commanded DisableTransmitter s b o = keeps.fit-side g f Transmit _ (fits-disabled Transmit t (f .transmit)) (λ m p. disabled-apart Transmit m p t)
+  fit-commanded DisableReceiver s b o = keeps.fit-side g f Receive _ (fits-disabled Receive r (f .receive)) (λ m p. disabled-apart Receive m p r)
+  fit-commanded (EnableTransmit p) s b o =
+      keeps.fit-side g f Transmit _ (fits-enabled Transmit t (f .transmit) p b (keeps.low2 transmitBits refl refl refl refl p s) (even-page (clear 1 p) (eqb (g .long) 1) o))
+      (λ m q. enabled-apart Transmit m q t (chaining g) p)
+  fit-commanded (EnableReceive p w) s b o =
+      let e = wanted p (keeps.low2 receiveBits refl refl refl refl p s) w in
+      keeps.fit-side g f Receive _ (fits-enabled Receive r (f .receive) (raiseIf w BROADCASTS p) b (e .0) (rw (e .1) (even-page (clear 1 p) (eqb (g .long) 1) o)))
+      (λ m q. enabled-apart Receive m q r (chaining g) (raiseIf w BROADCASTS p))
+  fit-commanded (LongPackets l) s b o =
+      let e : only 1 l ≡ true = by-table false (only 1) (λ l. true) 2 refl l s in
+      keeps.fit-long g f l e (or-left (clear TA (g .status)) (clear RI (g .status)) b) (or-right (clear TA (g .status)) (clear RI (g .status)) b)
+  fit-commanded (ClearFlags p r) s b o =
+      flag (with-status (lower (pick r RECON 0) (g .status)) g) (flag g f r RECON refl refl refl refl) p POR refl refl refl refl
+  fit-commanded ClearTransmit s b o = keeps.fit-side g f Transmit _ (fits-cleared Transmit t (f .transmit)) (λ m p. cleared-apart Transmit m p t)
+  fit-commanded ClearReceive s b o = keeps.fit-side g f Receive _ (fits-cleared Receive r (f .receive)) (λ m p. cleared-apart Receive m p r)

@@ -1,0 +1,74 @@
+-- Which register bytes each register access may change: all others are kept.
+-- Assumes nothing.
+use mathlib.Core.Path.{refl}
+use mathlib.Core.Bool.{true}
+use mathlib.Core.List.{List, [], _∷_}
+use Prim.Native.Nat.{ℕ}
+use lib.Dec.{eqb}
+use Rattle.queues.specs.declared.queues.Way.the-variants.{Transmit, Receive}
+use Rattle.registers.specs.declared.regs.Regs.{Regs}
+use Rattle.registers.specs.declared.commands.Command.{Command}
+use Rattle.registers.specs.declared.commands.Command.the-variants.{Illegal, DisableTransmitter, DisableReceiver, EnableTransmit, EnableReceive, LongPackets, ClearFlags, ClearTransmit, ClearReceive}
+use Rattle.bits.specs.Words.{pick, clear, has}
+use Rattle.bits.specs.Flags.{RESET, AUTO-INC}
+use Rattle.registers.specs.Commands.{commandOf}
+use Rattle.registers.specs.Registers.{sub, stepped, afterRead, softwareReset, changesChaining, rechained, configured, commanded, seventhWritten, afterWrite}
+use Rattle.registers.specs.Layout.{at-id, at-status, at-diagnostic, at-mask, at-configuration, at-setup, at-tentative, at-high, at-low, at-mode, at-transmit, at-receive, at-long, at-second-transmit, at-second-receive, at-sent, at-received, queueBytes, readChanges, writeBytes}
+use Rattle.bits.proofs.Words.Bools.{pick-of, pick-both}
+use Rattle.registers.proofs.Values.Keeps.{Keeps, keeps-same, keeps-then, keeps-puts, keeps-side}
+
+module _ (g : Regs) where
+  abbrev By : List ℕ → Regs → Type 0
+  By l h = Keeps l g h
+
+  keeps-stepped : By (at-high ∷ at-low ∷ []) (stepped g)
+  unfolding stepped
+  keeps-stepped =
+      pick-of (By (at-high ∷ at-low ∷ [])) (has AUTO-INC (g .mode)) (λ _. keeps-puts _ g _ ((at-high, _) ∷ (at-low, _) ∷ []) refl refl refl) (λ _. keeps-same _ g)
+
+  pub keeps-read : (k : ℕ) → By (readChanges k) (afterRead g k)
+  unfolding afterRead
+  keeps-read k = pick-both By (eqb k 1) (keeps-puts _ g _ ((at-diagnostic, 0) ∷ []) refl refl refl) (pick-both By (eqb k 4) keeps-stepped (keeps-same _ g))
+
+  keeps-commanded : (c : Command) → By (at-status ∷ at-long ∷ queueBytes true) (commanded g c)
+  unfolding commanded
+  keeps-commanded Illegal = keeps-same _ g
+  keeps-commanded DisableTransmitter = keeps-side _ g Transmit refl _
+  keeps-commanded DisableReceiver = keeps-side _ g Receive refl _
+  keeps-commanded (EnableTransmit p) = keeps-side _ g Transmit refl _
+  keeps-commanded (EnableReceive p b) = keeps-side _ g Receive refl _
+  keeps-commanded (LongPackets x) = keeps-puts _ g _ ((at-long, x) ∷ []) refl refl refl
+  keeps-commanded (ClearFlags p r) = keeps-puts _ g _ ((at-status, _) ∷ []) refl refl refl
+  keeps-commanded ClearTransmit = keeps-side _ g Transmit refl _
+  keeps-commanded ClearReceive = keeps-side _ g Receive refl _
+
+  abbrev reset : List ℕ
+  reset = at-configuration ∷ at-status ∷ at-diagnostic ∷ at-mask ∷ at-long ∷ queueBytes true
+
+  -- both queues are emptied
+  abbrev emptied : List (ℕ × ℕ)
+  emptied = (at-transmit, 0) ∷ (at-second-transmit, 0) ∷ (at-sent, 0) ∷ (at-receive, 0) ∷ (at-second-receive, 0) ∷ (at-received, 0) ∷ []
+
+  keeps-configured : (v : ℕ) → By reset (configured g v)
+  unfolding configured
+  keeps-configured v =
+      let h = pick (clear RESET v) (rechained g v) (softwareReset g) in
+      keeps-then g h _
+      (pick-of (By reset) (clear RESET v)
+      (λ _. pick-of (By reset) (changesChaining g v) (λ _. keeps-puts reset g _ emptied refl refl refl) (λ _. keeps-same reset g))
+      (λ _. keeps-puts reset g _ ((at-status, _) ∷ (at-diagnostic, 0) ∷ (at-mask, 0) ∷ (at-long, 0) ∷ emptied) refl refl refl))
+      (keeps-puts reset h _ ((at-configuration, v) ∷ []) refl refl refl)
+
+  pub keeps-write : (k v : ℕ) → By (writeBytes true g k) (afterWrite g k v)
+  unfolding afterWrite seventhWritten
+  keeps-write k v =
+      pick-both By (eqb k 0) (keeps-puts _ g _ ((at-mask, v) ∷ []) refl refl refl)
+      (pick-both By (eqb k 1) (keeps-commanded (commandOf v))
+      (pick-both By (eqb k 2) (keeps-puts _ g _ ((at-mode, v) ∷ []) refl refl refl)
+      (pick-both By (eqb k 3) (keeps-puts _ g _ ((at-high, _) ∷ (at-low, v) ∷ []) refl refl refl)
+      (pick-both By (eqb k 4) keeps-stepped
+      (pick-both By (eqb k 6) (keeps-configured v)
+      (pick-both By (eqb k 7)
+      (pick-both By (eqb (sub g) 0) (keeps-puts _ g _ ((at-tentative, v) ∷ []) refl refl refl)
+      (pick-both By (eqb (sub g) 1) (keeps-puts _ g _ ((at-id, v) ∷ []) refl refl refl) (keeps-puts _ g _ ((at-setup, v) ∷ []) refl refl refl)))
+      (keeps-same _ g)))))))
