@@ -1,13 +1,14 @@
 -- Document 01, "Sums to prove": "in a single list under one theorem".
 -- Assumes nothing.
 use mathlib.Core.Path.{_≡_}
-use mathlib.Core.Bool.{Bool, true, false}
+use mathlib.Core.Bool.{Bool, true}
 use mathlib.Core.List.{List, [], _∷_, map}
 use Prim.Native.Nat.{ℕ}
 use lib.ListN.{take}
 use Rattle.registers.specs.declared.regs.Regs.{Regs}
 use Rattle.card.specs.declared.packets.Shape.the-variants.{Malformed}
-use Rattle.registers.specs.declared.commands.Command.the-variants.{EnableTransmit, EnableReceive}
+use Rattle.registers.specs.declared.commands.Command.the-variants.{Enable}
+use Rattle.queues.specs.declared.queues.Way.the-variants.{Transmit, Receive}
 use Rattle.bits.specs.Words.{has}
 use Rattle.bits.specs.Flags.{AUTO-INC, RESET, CCHEN}
 use Rattle.registers.specs.Commands.{commandOf}
@@ -33,8 +34,8 @@ pub record Sums : Type 0 where
   pub long-4 : dataBytes (shapeOf 0 4 true) ≡ 508
   pub long-255 : dataBytes (shapeOf 0 255 true) ≡ 257
   -- "page of 2C is 3; page of 0B is 2"
-  pub page-2C : commandOf 0x2c ≡ EnableReceive 3 false
-  pub page-0B : commandOf 0x0b ≡ EnableTransmit 2
+  pub page-2C : commandOf 0x2c ≡ Enable Receive 3
+  pub page-0B : commandOf 0x0b ≡ Enable Transmit 2
   -- "NID 255 to 0; pointer 1,023 to 0; status 91 after reset": the hardware reset, and a write of RESET = 1
   pub nid-255 : (g : Regs) → g .nid ≡ 255 → risenNid g .nid ≡ 0
   pub pointer-1023 : (g : Regs) → has AUTO-INC (g .mode) ≡ true → pointer g ≡ 1023 → pointer (stepped g) ≡ 0

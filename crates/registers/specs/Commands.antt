@@ -4,9 +4,11 @@ use mathlib.Core.List.{List, [], _∷_}
 use Prim.Native.Nat.{ℕ, _+_, _*_, _/_, _%_}
 use lib.Bits.{bitAnd}
 use lib.Dec.{eqb}
+use Rattle.queues.specs.declared.queues.Way.the-variants.{Transmit, Receive}
 use Rattle.registers.specs.declared.commands.Command.{Command}
-use Rattle.registers.specs.declared.commands.Command.the-variants.{Illegal, DisableTransmitter, DisableReceiver, EnableTransmit, EnableReceive, LongPackets, ClearFlags, ClearTransmit, ClearReceive}
-use Rattle.bits.specs.Words.{pick, has}
+use Rattle.registers.specs.declared.commands.Command.the-variants.{Illegal, Disable, Enable, LongPackets, ClearFlags, Clear}
+use Rattle.bits.specs.Words.{pick, has, raiseIf}
+use Rattle.bits.specs.Flags.{BROADCASTS}
 
 -- "Twenty command bytes are legal, in hex", in the order in which document 01 lists them
 abbrev pub legalBytes : List ℕ
@@ -25,12 +27,12 @@ pageOf c = 2 * (c / 8 % 2) + c / 32 % 2
 -- the low three bits say the kind; 00f0 n011, b0f0 n100, 0000 c101 and 000r p110 are the layouts with bits to choose
 unfoldable pub commandOf : ℕ → Command
 commandOf c =
-    pick (eqb c 0x00) ClearTransmit
-    (pick (eqb c 0x08) ClearReceive
-    (pick (eqb c 0x01) DisableTransmitter
-    (pick (eqb c 0x02) DisableReceiver
-    (pick (eqb (bitAnd c 0xd7) 0x03) (EnableTransmit (pageOf c))
-    (pick (eqb (bitAnd c 0x57) 0x04) (EnableReceive (pageOf c) (has 0x80 c))
+    pick (eqb c 0x00) (Clear Transmit)
+    (pick (eqb c 0x08) (Clear Receive)
+    (pick (eqb c 0x01) (Disable Transmit)
+    (pick (eqb c 0x02) (Disable Receive)
+    (pick (eqb (bitAnd c 0xd7) 0x03) (Enable Transmit (pageOf c))
+    (pick (eqb (bitAnd c 0x57) 0x04) (Enable Receive (raiseIf (has 0x80 c) BROADCASTS (pageOf c)))
     (pick (eqb (bitAnd c 0xf7) 0x05) (LongPackets (c / 8 % 2))
     (pick (eqb (bitAnd c 0xe7) 0x06) (ClearFlags (has 0x08 c) (has 0x10 c))
     Illegal)))))))

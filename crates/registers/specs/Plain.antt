@@ -6,8 +6,9 @@ use mathlib.Core.List.{List, [], _∷_}
 use Prim.Native.Nat.{ℕ, _+_, _%_, _<_}
 use lib.Dec.{eqb}
 use Rattle.registers.specs.declared.regs.Regs.{Regs}
+use Rattle.queues.specs.declared.queues.Way.the-variants.{Transmit, Receive}
 use Rattle.registers.specs.declared.commands.Command.{Command}
-use Rattle.registers.specs.declared.commands.Command.the-variants.{Illegal, DisableTransmitter, DisableReceiver, EnableTransmit, EnableReceive, LongPackets, ClearFlags, ClearTransmit, ClearReceive}
+use Rattle.registers.specs.declared.commands.Command.the-variants.{Illegal, Disable, Enable, LongPackets, ClearFlags, Clear}
 use Rattle.bits.specs.Words.{pick, all, among, clear, has, raise, lower}
 use Rattle.bits.specs.Flags.{RI, POR, RECON, TMA, TA, RESET, CCHEN, RDDATA, CANCEL, BROADCASTS, only, maskBits, setupBits, modeBits, transmitBits, receiveBits}
 use Rattle.registers.specs.Numbers.{REGISTER, VALUE, NOTREADY, DIRECTION, BUSY, ONLINE, PAGE, Refusal, _when_}
@@ -44,14 +45,13 @@ plainConfigured g v = with-configuration v (pick (clear RESET v) g (plainReset g
 -- 00 and 08 are no commands
 abbrev pub plainCommanded : Regs → Command → Regs
 plainCommanded g Illegal = g
-plainCommanded g DisableTransmitter = with-oldest-transmit (pick (has TA (g .status)) (g .transmit .oldest) (raise CANCEL (g .transmit .oldest))) g
-plainCommanded g DisableReceiver = with-oldest-receive (pick (has RI (g .status)) (g .receive .oldest) (raise CANCEL (g .receive .oldest))) g
-plainCommanded g (EnableTransmit p) = with-status (lower (TA + TMA) (g .status)) (with-oldest-transmit p g)
-plainCommanded g (EnableReceive p b) = with-status (lower RI (g .status)) (with-oldest-receive (pick b (raise BROADCASTS p) p) g)
+plainCommanded g (Disable Transmit) = with-oldest-transmit (pick (has TA (g .status)) (g .transmit .oldest) (raise CANCEL (g .transmit .oldest))) g
+plainCommanded g (Disable Receive) = with-oldest-receive (pick (has RI (g .status)) (g .receive .oldest) (raise CANCEL (g .receive .oldest))) g
+plainCommanded g (Enable Transmit p) = with-status (lower (TA + TMA) (g .status)) (with-oldest-transmit p g)
+plainCommanded g (Enable Receive p) = with-status (lower RI (g .status)) (with-oldest-receive p g)
 plainCommanded g (LongPackets l) = with-long l g
 plainCommanded g (ClearFlags p r) = with-status (lower (pick p POR 0) (lower (pick r RECON 0) (g .status))) g
-plainCommanded g ClearTransmit = g
-plainCommanded g ClearReceive = g
+plainCommanded g (Clear w) = g
 
 -- "RI = 1, byte 14 zero"
 abbrev pub plainReceived : Regs → Regs
@@ -79,14 +79,12 @@ plainBadValue g k v =
 -- "7 BUSY: Enable with TA (RI) 0; 05 or 0D with TA or RI 0"
 abbrev pub plainBusy : Regs → Command → Bool
 plainBusy g Illegal = false
-plainBusy g DisableTransmitter = false
-plainBusy g DisableReceiver = false
-plainBusy g (EnableTransmit p) = clear TA (g .status)
-plainBusy g (EnableReceive p b) = clear RI (g .status)
+plainBusy g (Disable w) = false
+plainBusy g (Enable Transmit p) = clear TA (g .status)
+plainBusy g (Enable Receive p) = clear RI (g .status)
 plainBusy g (LongPackets l) = clear TA (g .status) || clear RI (g .status)
 plainBusy g (ClearFlags p r) = false
-plainBusy g ClearTransmit = false
-plainBusy g ClearReceive = false
+plainBusy g (Clear w) = false
 
 abbrev pub plainWriteRefusals : Regs → ℕ → ℕ → List Refusal
 plainWriteRefusals g k v =

@@ -4,10 +4,9 @@ use mathlib.Core.Bool.{Bool, true, false, not, _&&_, _||_}
 use mathlib.Core.List.{List, [], _∷_}
 use Prim.Native.Nat.{ℕ}
 use lib.Dec.{eqb, ltb}
-use Rattle.queues.specs.declared.queues.Way.the-variants.{Transmit, Receive}
 use Rattle.registers.specs.declared.regs.Regs.{Regs}
 use Rattle.registers.specs.declared.commands.Command.{Command}
-use Rattle.registers.specs.declared.commands.Command.the-variants.{Illegal, DisableTransmitter, DisableReceiver, EnableTransmit, EnableReceive, LongPackets, ClearFlags, ClearTransmit, ClearReceive}
+use Rattle.registers.specs.declared.commands.Command.the-variants.{Illegal, Disable, Enable, LongPackets, ClearFlags, Clear}
 use Rattle.bits.specs.Words.{clear, has}
 use Rattle.bits.specs.Flags.{RI, TA, RDDATA, only, maskBits, setupBits, modeBits}
 use Rattle.registers.specs.Numbers.{REGISTER, VALUE, NOTREADY, DIRECTION, BUSY, ONLINE, PAGE, Refusal, _when_, told}
@@ -24,14 +23,11 @@ noRegister g k = ltb 7 k || eqb k 5 || eqb k 7 && eqb (sub g) 3
 -- C-11: "VALUE no longer meets .. commands 00 and 08 in a chaining row"
 abbrev pub illegal : Bool → Command → Bool
 illegal chaining Illegal = true
-illegal chaining DisableTransmitter = false
-illegal chaining DisableReceiver = false
-illegal chaining (EnableTransmit p) = false
-illegal chaining (EnableReceive p b) = false
+illegal chaining (Disable w) = false
+illegal chaining (Enable w entry) = false
 illegal chaining (LongPackets l) = false
 illegal chaining (ClearFlags p r) = false
-illegal chaining ClearTransmit = not chaining
-illegal chaining ClearReceive = not chaining
+illegal chaining (Clear w) = not chaining
 
 -- "4 VALUE: unnamed bit, .., illegal command"; a configuration has no unnamed bit
 unfoldable pub badValue : Regs → ℕ → ℕ → Bool
@@ -42,14 +38,11 @@ badValue g k v =
 -- "7 BUSY: Enable with TA (RI) 0", in a chaining row with two waiting; "05 or 0D with TA or RI 0"
 abbrev pub busy : Regs → Command → Bool
 busy g Illegal = false
-busy g DisableTransmitter = false
-busy g DisableReceiver = false
-busy g (EnableTransmit p) = full Transmit (chaining g) (sideOf Transmit g)
-busy g (EnableReceive p b) = full Receive (chaining g) (sideOf Receive g)
+busy g (Disable w) = false
+busy g (Enable w entry) = full w (chaining g) (sideOf w g)
 busy g (LongPackets l) = clear TA (g .status) || clear RI (g .status)
 busy g (ClearFlags p r) = false
-busy g ClearTransmit = false
-busy g ClearReceive = false
+busy g (Clear w) = false
 
 -- C-11: "changing CCHEN with work waiting is BUSY"
 abbrev pub chainBusy : Regs → ℕ → Bool
@@ -58,14 +51,11 @@ chainBusy g v = changesChaining g v && (clear TA (g .status) || clear RI (g .sta
 -- "9 PAGE: Enable with f = 1 and long packets 1"
 abbrev pub oddPage : Regs → Command → Bool
 oddPage g Illegal = false
-oddPage g DisableTransmitter = false
-oddPage g DisableReceiver = false
-oddPage g (EnableTransmit p) = has 1 p && eqb (g .long) 1
-oddPage g (EnableReceive p b) = has 1 p && eqb (g .long) 1
+oddPage g (Disable w) = false
+oddPage g (Enable w entry) = has 1 entry && eqb (g .long) 1
 oddPage g (LongPackets l) = false
 oddPage g (ClearFlags p r) = false
-oddPage g ClearTransmit = false
-oddPage g ClearReceive = false
+oddPage g (Clear w) = false
 
 -- "6 DIRECTION: register 4 read with RDDATA 0 .."
 unfoldable pub readRefusals : Regs → ℕ → List Refusal

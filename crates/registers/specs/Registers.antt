@@ -4,12 +4,11 @@ use mathlib.Core.Bool.{Bool, not, _&&_, _||_}
 use Prim.Native.Nat.{ℕ, _+_, _*_, _/_, _%_}
 use lib.Bits.{bitAnd, bitOr}
 use lib.Dec.{eqb}
-use Rattle.queues.specs.declared.queues.Way.the-variants.{Transmit, Receive}
 use Rattle.registers.specs.declared.regs.Regs.{Regs}
 use Rattle.registers.specs.declared.commands.Command.{Command}
-use Rattle.registers.specs.declared.commands.Command.the-variants.{Illegal, DisableTransmitter, DisableReceiver, EnableTransmit, EnableReceive, LongPackets, ClearFlags, ClearTransmit, ClearReceive}
+use Rattle.registers.specs.declared.commands.Command.the-variants.{Illegal, Disable, Enable, LongPackets, ClearFlags, Clear}
 use Rattle.bits.specs.Words.{pick, clear, has, raiseIf, lower}
-use Rattle.bits.specs.Flags.{RI, POR, RECON, TMA, TA, TRI, shownRI, shownTA, TTA, RESET, CCHEN, RDDATA, AUTO-INC, BROADCASTS}
+use Rattle.bits.specs.Flags.{RI, POR, RECON, TMA, TA, TRI, shownRI, shownTA, TTA, RESET, CCHEN, RDDATA, AUTO-INC}
 use Rattle.registers.specs.Fields.{with-id, with-status, with-diagnostic, with-mask, with-configuration, with-setup, with-tentative, with-high, with-low, with-mode, with-transmit, with-receive, with-long}
 use Rattle.queues.specs.Queues.{none, cleared, enabled, disabled}
 use Rattle.registers.specs.Sides.{chaining, sideOf, withSide, tta, tri}
@@ -105,14 +104,11 @@ interrupt g =
 -- .. 05, 0D long packets 0, 1. .. Clear Flags: bit 3 clears POR, bit 4 RECON"; C-11: "Clear Transmit Interrupt (00) or Clear Receive Interrupt (08)"
 unfoldable pub commanded : Regs → Command → Regs
 commanded g Illegal = g
-commanded g DisableTransmitter = withSide Transmit (disabled Transmit (sideOf Transmit g)) g
-commanded g DisableReceiver = withSide Receive (disabled Receive (sideOf Receive g)) g
-commanded g (EnableTransmit p) = withSide Transmit (enabled Transmit (chaining g) p (sideOf Transmit g)) g
-commanded g (EnableReceive p b) = withSide Receive (enabled Receive (chaining g) (raiseIf b BROADCASTS p) (sideOf Receive g)) g
+commanded g (Disable w) = withSide w (disabled w (sideOf w g)) g
+commanded g (Enable w entry) = withSide w (enabled w (chaining g) entry (sideOf w g)) g
 commanded g (LongPackets l) = with-long l g
 commanded g (ClearFlags p r) = with-status (lower (pick p POR 0) (lower (pick r RECON 0) (g .status))) g
-commanded g ClearTransmit = withSide Transmit (cleared Transmit (sideOf Transmit g)) g
-commanded g ClearReceive = withSide Receive (cleared Receive (sideOf Receive g)) g
+commanded g (Clear w) = withSide w (cleared w (sideOf w g)) g
 
 -- a write of the node ID
 unfoldable pub writesId : Regs → ℕ → Bool

@@ -8,7 +8,6 @@ use crate::regs::AFTER_RESET;
 use crate::regs::Regs;
 use bits::choice::choose;
 use bits::flags::AUTO_INC;
-use bits::flags::BROADCASTS;
 use bits::flags::CCHEN;
 use bits::flags::POR;
 use bits::flags::RDDATA;
@@ -22,7 +21,6 @@ use bits::flags::TMA;
 use bits::flags::TRI;
 use bits::flags::TTA;
 use queues::queues::Queue;
-use queues::queues::Way;
 
 impl Regs {
     // The RAM address that register 4 reads or writes.
@@ -152,12 +150,8 @@ impl Regs {
         let mut g = self;
         match command {
             Command::Illegal => g,
-            Command::DisableTransmitter => self.disabled(Way::Transmit),
-            Command::DisableReceiver => self.disabled(Way::Receive),
-            Command::EnableTransmit(page) => self.enabled(Way::Transmit, page),
-            Command::EnableReceive(page, broadcasts) => {
-                self.enabled(Way::Receive, choose(broadcasts, page | BROADCASTS, page))
-            }
+            Command::Disable(way) => self.disabled(way),
+            Command::Enable(way, entry) => self.enabled(way, entry),
             Command::LongPackets(on) => {
                 g.long = on;
                 g
@@ -166,8 +160,7 @@ impl Regs {
                 g.status = self.status & !choose(recon, RECON, 0) & !choose(por, POR, 0);
                 g
             }
-            Command::ClearTransmit => self.cleared(Way::Transmit),
-            Command::ClearReceive => self.cleared(Way::Receive),
+            Command::Clear(way) => self.cleared(way),
         }
     }
 

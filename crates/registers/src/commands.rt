@@ -2,49 +2,49 @@
 ghost use mathlib.Core.Path.{_≡_};
 ghost use Rattle.registers.specs.Commands.{commandOf};
 ghost use Rattle.registers.specs.Refusals.{illegal};
+use bits::flags::BROADCASTS;
+use queues::queues::Way;
 
 // What a byte written to register 1 asks of the card. Pages are 0 to 3.
 pub enum Command {
     Illegal,
-    DisableTransmitter,
-    DisableReceiver,
-    EnableTransmit(u8),
-    // The page, and whether broadcasts are wanted.
-    EnableReceive(u8, bool),
+    // Disable Transmitter, Disable Receiver.
+    Disable(Way),
+    // Enable Transmit and Enable Receive: the page, and of a receive the bit that wants broadcasts.
+    Enable(Way, u8),
     LongPackets(u8),
     // Whether POR is cleared, and whether RECON is.
     ClearFlags(bool, bool),
     // Clear Transmit Interrupt and Clear Receive Interrupt, of a chaining row alone.
-    ClearTransmit,
-    ClearReceive,
+    Clear(Way),
 }
 
 // A legal byte, and its command with its page.
 struct Legal(u8, Command);
 
 const LEGAL: [Legal; 22] = [
-    Legal(0x01, Command::DisableTransmitter),
-    Legal(0x02, Command::DisableReceiver),
-    Legal(0x03, Command::EnableTransmit(0)),
-    Legal(0x0b, Command::EnableTransmit(2)),
-    Legal(0x23, Command::EnableTransmit(1)),
-    Legal(0x2b, Command::EnableTransmit(3)),
-    Legal(0x04, Command::EnableReceive(0, false)),
-    Legal(0x0c, Command::EnableReceive(2, false)),
-    Legal(0x24, Command::EnableReceive(1, false)),
-    Legal(0x2c, Command::EnableReceive(3, false)),
-    Legal(0x84, Command::EnableReceive(0, true)),
-    Legal(0x8c, Command::EnableReceive(2, true)),
-    Legal(0xa4, Command::EnableReceive(1, true)),
-    Legal(0xac, Command::EnableReceive(3, true)),
+    Legal(0x01, Command::Disable(Way::Transmit)),
+    Legal(0x02, Command::Disable(Way::Receive)),
+    Legal(0x03, Command::Enable(Way::Transmit, 0)),
+    Legal(0x0b, Command::Enable(Way::Transmit, 2)),
+    Legal(0x23, Command::Enable(Way::Transmit, 1)),
+    Legal(0x2b, Command::Enable(Way::Transmit, 3)),
+    Legal(0x04, Command::Enable(Way::Receive, 0)),
+    Legal(0x0c, Command::Enable(Way::Receive, 2)),
+    Legal(0x24, Command::Enable(Way::Receive, 1)),
+    Legal(0x2c, Command::Enable(Way::Receive, 3)),
+    Legal(0x84, Command::Enable(Way::Receive, BROADCASTS | 0)),
+    Legal(0x8c, Command::Enable(Way::Receive, BROADCASTS | 2)),
+    Legal(0xa4, Command::Enable(Way::Receive, BROADCASTS | 1)),
+    Legal(0xac, Command::Enable(Way::Receive, BROADCASTS | 3)),
     Legal(0x05, Command::LongPackets(0)),
     Legal(0x0d, Command::LongPackets(1)),
     Legal(0x06, Command::ClearFlags(false, false)),
     Legal(0x0e, Command::ClearFlags(true, false)),
     Legal(0x16, Command::ClearFlags(false, true)),
     Legal(0x1e, Command::ClearFlags(true, true)),
-    Legal(0x00, Command::ClearTransmit),
-    Legal(0x08, Command::ClearReceive),
+    Legal(0x00, Command::Clear(Way::Transmit)),
+    Legal(0x08, Command::Clear(Way::Receive)),
 ];
 
 // The command of a byte, found in the table.
@@ -69,14 +69,11 @@ impl Command {
     {
         match self {
             Command::Illegal => true,
-            Command::DisableTransmitter => false,
-            Command::DisableReceiver => false,
-            Command::EnableTransmit(_) => false,
-            Command::EnableReceive(_, _) => false,
+            Command::Disable(_) => false,
+            Command::Enable(_, _) => false,
             Command::LongPackets(_) => false,
             Command::ClearFlags(_, _) => false,
-            Command::ClearTransmit => !chaining,
-            Command::ClearReceive => !chaining,
+            Command::Clear(_) => !chaining,
         }
     }
 }

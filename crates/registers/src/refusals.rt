@@ -18,7 +18,6 @@ use bits::flags::MASK;
 use bits::flags::MODE;
 use bits::flags::RDDATA;
 use bits::flags::SETUP;
-use queues::queues::Way;
 
 impl Regs {
     // REGISTER: no such register, or none at this sub-address.
@@ -44,14 +43,11 @@ impl Regs {
     {
         match command {
             Command::Illegal => false,
-            Command::DisableTransmitter => false,
-            Command::DisableReceiver => false,
-            Command::EnableTransmit(_) => self.full(Way::Transmit),
-            Command::EnableReceive(_, _) => self.full(Way::Receive),
+            Command::Disable(_) => false,
+            Command::Enable(way, _) => self.full(way),
             Command::LongPackets(_) => self.transmitting() | self.receiving(),
             Command::ClearFlags(_, _) => false,
-            Command::ClearTransmit => false,
-            Command::ClearReceive => false,
+            Command::Clear(_) => false,
         }
     }
 
@@ -68,14 +64,11 @@ impl Regs {
     {
         match command {
             Command::Illegal => false,
-            Command::DisableTransmitter => false,
-            Command::DisableReceiver => false,
-            Command::EnableTransmit(page) => (page & 1 != 0) & (self.long == 1),
-            Command::EnableReceive(page, _) => (page & 1 != 0) & (self.long == 1),
+            Command::Disable(_) => false,
+            Command::Enable(_, entry) => (entry & 1 != 0) & (self.long == 1),
             Command::LongPackets(_) => false,
             Command::ClearFlags(_, _) => false,
-            Command::ClearTransmit => false,
-            Command::ClearReceive => false,
+            Command::Clear(_) => false,
         }
     }
 

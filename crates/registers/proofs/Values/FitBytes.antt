@@ -49,7 +49,7 @@ module _ (g : Regs) (f : Fit g) where
   fit-pointer a b e = search (f, e)
 
   -- ---- a side, where the change leaves the flags of the status that are not its own
-  pub fit-side : (w : Way) (s : Side) → Fits w (chaining g) (g .long) s → ((m : ℕ) → Apart w m → clear m (s .status) ≡ clear m (g .status)) → Fit (withSide w s g)
+  pub fit-side : (w : Way) (s : Side) → Fits w (chaining g) (g .long) s → ((m : ℕ) → Apart w m → clear m (s .status) ≡ clear m (sideOf w g .status)) → Fit (withSide w s g)
   fit-side Transmit s k left =
       let e = left (255 - statusBits) (refl, refl, refl, refl, refl) ∙ f .status in
       let r = fits-status Receive (sideOf Receive g) (f .receive) (s .status) (left RI (refl, refl, refl, refl, refl)) in

@@ -6,47 +6,49 @@ use Prim.Native.Nat.{ℕ, _-_, _<_}
 use native.Mathlib.Omega.{arith}
 use lib.Bits.{bitAnd}
 use lib.Dec.{eqb}
-use Rattle.queues.specs.declared.queues.Way.the-variants.{Transmit, Receive}
-use Rattle.queues.specs.declared.queues.Side.{Side}
 use Rattle.registers.specs.declared.regs.Regs.{Regs}
 use Rattle.registers.specs.declared.commands.Command.{Command}
-use Rattle.registers.specs.declared.commands.Command.the-variants.{Illegal, DisableTransmitter, DisableReceiver, EnableTransmit, EnableReceive, LongPackets, ClearFlags, ClearTransmit, ClearReceive}
-use Rattle.bits.specs.Words.{pick, clear, raiseIf, lower}
+use Rattle.registers.specs.declared.commands.Command.the-variants.{Illegal, Disable, Enable, LongPackets, ClearFlags, Clear}
+use Rattle.bits.specs.Words.{pick, clear, has, raiseIf, lower}
 use Rattle.bits.specs.Flags.{RI, POR, RECON, TMA, TA, BROADCASTS, only, statusBits, transmitBits, receiveBits}
 use Rattle.registers.specs.Fields.{with-status}
 use Rattle.registers.specs.Sides.{chaining, sideOf}
-use Rattle.registers.specs.Commands.{commandOf}
+use Rattle.registers.specs.Commands.{pageOf, commandOf}
 use Rattle.registers.specs.Registers.{commanded}
 use Rattle.registers.specs.Refusals.{busy, oddPage}
 use Rattle.bits.proofs.Words.Bools.{or-left, or-right, pick-of}
 use Rattle.bits.proofs.Words.Table.{by-table}
 use Rattle.bits.proofs.Words.Masks.{raise-other}
+use Rattle.queues.specs.Queues.{oldestBits}
 use Rattle.queues.proofs.Changes.{fits-enabled, fits-disabled, fits-cleared}
 use Rattle.queues.proofs.Apart.{enabled-apart, disabled-apart, cleared-apart}
-use Rattle.registers.proofs.Values.Fits.{Fit}
+use Rattle.registers.proofs.Values.Fits.{Fit, fit-of}
 use Rattle.registers.proofs.Values.FitBytes as keeps
 
--- the page and the flag of a decoded command are small
+-- a receive page with its broadcasts bit
+wanted : (p : ℕ) → only receiveBits p ≡ true → (b : Bool) → only receiveBits (raiseIf b BROADCASTS p) ≡ true
+wanted p w true = raise-other (255 - receiveBits) BROADCASTS p refl ∙ w
+wanted p w false = w
+
+-- what a decoded command carries has no unnamed bit
 abbrev pub Small : Command → Type 0
 Small Illegal = Unit
-Small DisableTransmitter = Unit
-Small DisableReceiver = Unit
-Small (EnableTransmit p) = p < 4
-Small (EnableReceive p b) = p < 4
+Small (Disable w) = Unit
+Small (Enable w entry) = only (oldestBits w) entry ≡ true
 Small (LongPackets l) = l < 2
 Small (ClearFlags p r) = Unit
-Small ClearTransmit = Unit
-Small ClearReceive = Unit
+Small (Clear w) = Unit
 
 pub small : (c : ℕ) → Small (commandOf c)
 unfolding commandOf
 small c =
+    let page : pageOf c < 4 = omega arith in
     pick-of Small (eqb c 0x00) (λ _. tt)
     (λ _. pick-of Small (eqb c 0x08) (λ _. tt)
     (λ _. pick-of Small (eqb c 0x01) (λ _. tt)
     (λ _. pick-of Small (eqb c 0x02) (λ _. tt)
-    (λ _. pick-of Small (eqb (bitAnd c 0xd7) 0x03) (λ _. omega arith)
-    (λ _. pick-of Small (eqb (bitAnd c 0x57) 0x04) (λ _. omega arith)
+    (λ _. pick-of Small (eqb (bitAnd c 0xd7) 0x03) (λ _. keeps.low2 transmitBits refl refl refl refl (pageOf c) page)
+    (λ _. pick-of Small (eqb (bitAnd c 0x57) 0x04) (λ _. wanted (pageOf c) (keeps.low2 receiveBits refl refl refl refl (pageOf c) page) (has 0x80 c))
     (λ _. pick-of Small (eqb (bitAnd c 0xf7) 0x05) (λ _. omega arith)
     (λ _. pick-of Small (eqb (bitAnd c 0xe7) 0x06) (λ _. tt) (λ _. tt))))))))
 
@@ -63,34 +65,16 @@ even-page true false h = refl
 even-page false true h = cc
 even-page false false h = refl
 
--- a receive page with its broadcasts bit
-wanted : (p : ℕ) → only receiveBits p ≡ true → (b : Bool) → (only receiveBits (raiseIf b BROADCASTS p) ≡ true) × (clear 1 (raiseIf b BROADCASTS p) ≡ clear 1 p)
-wanted p w true = (raise-other (255 - receiveBits) BROADCASTS p refl ∙ w, raise-other 1 BROADCASTS p refl)
-wanted p w false = (w, refl)
-
 module _ (g : Regs) (f : Fit g) where
-  abbrev t : Side
-  t = sideOf Transmit g
-
-  abbrev r : Side
-  r = sideOf Receive g
-
   pub fit-commanded : (c : Command) → Small c → busy g c ≡ false → oddPage g c ≡ false → Fit (commanded g c)
   unfolding commanded
   fit-commanded Illegal s b o = f
-  fit-commanded DisableTransmitter s b o = keeps.fit-side g f Transmit _ (fits-disabled Transmit t (f .transmit)) (λ m p. disabled-apart Transmit m p t)
-  fit-commanded DisableReceiver s b o = keeps.fit-side g f Receive _ (fits-disabled Receive r (f .receive)) (λ m p. disabled-apart Receive m p r)
-  fit-commanded (EnableTransmit p) s b o =
-      keeps.fit-side g f Transmit _ (fits-enabled Transmit t (f .transmit) p b (keeps.low2 transmitBits refl refl refl refl p s) (even-page (clear 1 p) (eqb (g .long) 1) o))
-      (λ m q. enabled-apart Transmit m q t (chaining g) p)
-  fit-commanded (EnableReceive p w) s b o =
-      let e = wanted p (keeps.low2 receiveBits refl refl refl refl p s) w in
-      keeps.fit-side g f Receive _ (fits-enabled Receive r (f .receive) (raiseIf w BROADCASTS p) b (e .0) (rw (e .1) (even-page (clear 1 p) (eqb (g .long) 1) o)))
-      (λ m q. enabled-apart Receive m q r (chaining g) (raiseIf w BROADCASTS p))
+  fit-commanded (Disable w) s b o = keeps.fit-side g f w _ (fits-disabled w (sideOf w g) (fit-of g f w)) (λ m p. disabled-apart w m p (sideOf w g))
+  fit-commanded (Enable w entry) s b o =
+      keeps.fit-side g f w _ (fits-enabled w (sideOf w g) (fit-of g f w) entry b s (even-page (clear 1 entry) (eqb (g .long) 1) o)) (λ m q. enabled-apart w m q (sideOf w g) (chaining g) entry)
   fit-commanded (LongPackets l) s b o =
       let e : only 1 l ≡ true = by-table false (only 1) (λ l. true) 2 refl l s in
       keeps.fit-long g f l e (or-left (clear TA (g .status)) (clear RI (g .status)) b) (or-right (clear TA (g .status)) (clear RI (g .status)) b)
   fit-commanded (ClearFlags p r) s b o =
       flag (with-status (lower (pick r RECON 0) (g .status)) g) (flag g f r RECON refl refl refl refl) p POR refl refl refl refl
-  fit-commanded ClearTransmit s b o = keeps.fit-side g f Transmit _ (fits-cleared Transmit t (f .transmit)) (λ m p. cleared-apart Transmit m p t)
-  fit-commanded ClearReceive s b o = keeps.fit-side g f Receive _ (fits-cleared Receive r (f .receive)) (λ m p. cleared-apart Receive m p r)
+  fit-commanded (Clear w) s b o = keeps.fit-side g f w _ (fits-cleared w (sideOf w g) (fit-of g f w)) (λ m p. cleared-apart w m p (sideOf w g))

@@ -3,6 +3,7 @@
 use mathlib.Core.Path.{_≡_}
 use mathlib.Core.Bool.{true, _&&_}
 use lib.Dec.{eqb, lit<}
+use Rattle.queues.specs.declared.queues.Way.{Way}
 use Rattle.queues.specs.declared.queues.Way.the-variants.{Transmit, Receive}
 use Rattle.registers.specs.declared.regs.Regs.{Regs}
 use Rattle.bits.specs.Words.{all}
@@ -54,3 +55,7 @@ module _ (g : Regs) where
   unfolding fit
   rules-fit f =
       rw (f .status, f .diagnostic, f .mask, f .setup, f .high, f .mode, f .long, f .fetched, f .naklow, f .nakhigh, sides.rules-fit Transmit (chaining g) (g .long) (sideOf Transmit g) (f .transmit), sides.rules-fit Receive (chaining g) (g .long) (sideOf Receive g) (f .receive))
+
+pub fit-of : (g : Regs) → Fit g → (w : Way) → sides.Fits w (chaining g) (g .long) (sideOf w g)
+fit-of g f Transmit = f .transmit
+fit-of g f Receive = f .receive

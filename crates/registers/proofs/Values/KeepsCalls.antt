@@ -8,7 +8,7 @@ use lib.Dec.{eqb}
 use Rattle.queues.specs.declared.queues.Way.the-variants.{Transmit, Receive}
 use Rattle.registers.specs.declared.regs.Regs.{Regs}
 use Rattle.registers.specs.declared.commands.Command.{Command}
-use Rattle.registers.specs.declared.commands.Command.the-variants.{Illegal, DisableTransmitter, DisableReceiver, EnableTransmit, EnableReceive, LongPackets, ClearFlags, ClearTransmit, ClearReceive}
+use Rattle.registers.specs.declared.commands.Command.the-variants.{Illegal, Disable, Enable, LongPackets, ClearFlags, Clear}
 use Rattle.bits.specs.Words.{pick, clear, has}
 use Rattle.bits.specs.Flags.{RESET, AUTO-INC}
 use Rattle.registers.specs.Commands.{commandOf}
@@ -33,14 +33,14 @@ module _ (g : Regs) where
   keeps-commanded : (c : Command) → By (at-status ∷ at-long ∷ queueBytes true) (commanded g c)
   unfolding commanded
   keeps-commanded Illegal = keeps-same _ g
-  keeps-commanded DisableTransmitter = keeps-side _ g Transmit refl _
-  keeps-commanded DisableReceiver = keeps-side _ g Receive refl _
-  keeps-commanded (EnableTransmit p) = keeps-side _ g Transmit refl _
-  keeps-commanded (EnableReceive p b) = keeps-side _ g Receive refl _
+  keeps-commanded (Disable Transmit) = keeps-side _ g Transmit refl _
+  keeps-commanded (Disable Receive) = keeps-side _ g Receive refl _
+  keeps-commanded (Enable Transmit p) = keeps-side _ g Transmit refl _
+  keeps-commanded (Enable Receive p) = keeps-side _ g Receive refl _
   keeps-commanded (LongPackets x) = keeps-puts _ g _ ((at-long, x) ∷ []) refl refl refl
   keeps-commanded (ClearFlags p r) = keeps-puts _ g _ ((at-status, _) ∷ []) refl refl refl
-  keeps-commanded ClearTransmit = keeps-side _ g Transmit refl _
-  keeps-commanded ClearReceive = keeps-side _ g Receive refl _
+  keeps-commanded (Clear Transmit) = keeps-side _ g Transmit refl _
+  keeps-commanded (Clear Receive) = keeps-side _ g Receive refl _
 
   abbrev reset : List ℕ
   reset = at-configuration ∷ at-status ∷ at-diagnostic ∷ at-mask ∷ at-long ∷ queueBytes true

@@ -8,7 +8,7 @@ use native.Mathlib.Omega.{arith}
 use borrow.Author.Tests.{ne-eqb}
 use lib.ListN.{length, getD}
 use Rattle.registers.specs.declared.commands.Command.{Command}
-use Rattle.registers.specs.declared.commands.Command.the-variants.{Illegal, DisableTransmitter, DisableReceiver, EnableTransmit, EnableReceive, LongPackets, ClearFlags, ClearTransmit, ClearReceive}
+use Rattle.registers.specs.declared.commands.Command.the-variants.{Illegal, Disable, Enable, LongPackets, ClearFlags, Clear}
 use Rattle.registers.specs.declared.commands.Legal.{Legal}
 use Rattle.bits.specs.Words.{among}
 use Rattle.registers.specs.Commands.{commandOf, legalBytes, chainBytes}
@@ -17,14 +17,11 @@ use Rattle.bits.proofs.Words.Table.{tab, entry, by-table}
 
 is-illegal : (k : Command) → illegal true k ≡ true → k ≡ Illegal
 is-illegal Illegal h = refl
-is-illegal DisableTransmitter h = cc
-is-illegal DisableReceiver h = cc
-is-illegal (EnableTransmit p) h = cc
-is-illegal (EnableReceive p b) h = cc
+is-illegal (Disable w) h = cc
+is-illegal (Enable w p) h = cc
 is-illegal (LongPackets l) h = cc
 is-illegal (ClearFlags p r) h = cc
-is-illegal ClearTransmit h = cc
-is-illegal ClearReceive h = cc
+is-illegal (Clear w) h = cc
 
 abbrev pub commandBytes : List ℕ
 commandBytes = legalBytes ++ chainBytes

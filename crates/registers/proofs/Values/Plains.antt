@@ -9,7 +9,7 @@ use lib.Dec.{eqb, lit<}
 use Rattle.queues.specs.declared.queues.Way.the-variants.{Transmit, Receive}
 use Rattle.registers.specs.declared.regs.Regs.{Regs}
 use Rattle.registers.specs.declared.commands.Command.{Command}
-use Rattle.registers.specs.declared.commands.Command.the-variants.{Illegal, DisableTransmitter, DisableReceiver, EnableTransmit, EnableReceive, LongPackets, ClearFlags, ClearTransmit, ClearReceive}
+use Rattle.registers.specs.declared.commands.Command.the-variants.{Illegal, Disable, Enable, LongPackets, ClearFlags, Clear}
 use Rattle.bits.specs.Words.{all, among, clear, has}
 use Rattle.bits.specs.Flags.{TMA, TA, CCHEN, only, maskBits, modeBits}
 use Rattle.queues.specs.Queues as queues
@@ -30,14 +30,12 @@ module _ (g : Regs) (c : chaining g ≡ false) where
   -- ---- the refusals of a write
   busy-plain : (k : Command) → busy g k ≡ plainBusy g k
   busy-plain Illegal = refl
-  busy-plain DisableTransmitter = refl
-  busy-plain DisableReceiver = refl
-  busy-plain (EnableTransmit p) = rw c
-  busy-plain (EnableReceive p b) = rw c
+  busy-plain (Disable w) = refl
+  busy-plain (Enable Transmit p) = rw c
+  busy-plain (Enable Receive p) = rw c
   busy-plain (LongPackets l) = refl
   busy-plain (ClearFlags p r) = refl
-  busy-plain ClearTransmit = refl
-  busy-plain ClearReceive = refl
+  busy-plain (Clear w) = refl
 
   plain-configuration : clear CCHEN (g .configuration) ≡ true
   plain-configuration = not-false (clear CCHEN (g .configuration)) c

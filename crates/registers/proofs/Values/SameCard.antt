@@ -6,8 +6,9 @@ use Prim.Native.Nat.{ℕ, _+_, _%_, _<_}
 use borrow.Author.Tests.{eqb-true}
 use lib.Dec.{eqb, lit<}
 use Rattle.registers.specs.declared.regs.Regs.{Regs}
+use Rattle.queues.specs.declared.queues.Way.the-variants.{Transmit, Receive}
 use Rattle.registers.specs.declared.commands.Command.{Command}
-use Rattle.registers.specs.declared.commands.Command.the-variants.{Illegal, DisableTransmitter, DisableReceiver, EnableTransmit, EnableReceive, LongPackets, ClearFlags, ClearTransmit, ClearReceive}
+use Rattle.registers.specs.declared.commands.Command.the-variants.{Illegal, Disable, Enable, LongPackets, ClearFlags, Clear}
 use Rattle.bits.specs.Words.{pick, clear, has}
 use Rattle.bits.specs.Flags.{AUTO-INC, RESET}
 use Rattle.registers.specs.Fields.{with-configuration}
@@ -64,14 +65,14 @@ module _ (g : Regs) where
   kept-commanded : (c : Command) → SameCard g (commanded g c)
   unfolding commanded
   kept-commanded Illegal = same-card g
-  kept-commanded DisableTransmitter = search
-  kept-commanded DisableReceiver = search
-  kept-commanded (EnableTransmit p) = search
-  kept-commanded (EnableReceive p b) = search
+  kept-commanded (Disable Transmit) = search
+  kept-commanded (Disable Receive) = search
+  kept-commanded (Enable Transmit p) = search
+  kept-commanded (Enable Receive p) = search
   kept-commanded (LongPackets l) = search
   kept-commanded (ClearFlags p r) = search
-  kept-commanded ClearTransmit = search
-  kept-commanded ClearReceive = search
+  kept-commanded (Clear Transmit) = search
+  kept-commanded (Clear Receive) = search
 
   pub same-read : (k : ℕ) → SameCard g (afterRead g k)
   unfolding afterRead

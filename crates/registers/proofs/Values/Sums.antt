@@ -1,11 +1,12 @@
 -- Document 01's sums of a card's registers.
 -- Assumes nothing.
 use mathlib.Core.Path.{_≡_, refl}
-use mathlib.Core.Bool.{true, false}
+use mathlib.Core.Bool.{true}
 use Prim.Native.Nat.{ℕ}
 use borrow.Author.Tests.{not-true}
 use Rattle.registers.specs.declared.regs.Regs.{Regs}
-use Rattle.registers.specs.declared.commands.Command.the-variants.{EnableTransmit, EnableReceive}
+use Rattle.registers.specs.declared.commands.Command.the-variants.{Enable}
+use Rattle.queues.specs.declared.queues.Way.the-variants.{Transmit, Receive}
 use Rattle.bits.specs.Words.{clear, has}
 use Rattle.bits.specs.Flags.{AUTO-INC, RESET, CCHEN}
 use Rattle.registers.specs.Fields.{with-configuration}
@@ -15,11 +16,11 @@ use Rattle.registers.specs.Events.{risenNid}
 use Rattle.bits.proofs.Words.Bools.{pick-of}
 
 -- the pages of two commands
-pub page-2C : commandOf 0x2c ≡ EnableReceive 3 false
+pub page-2C : commandOf 0x2c ≡ Enable Receive 3
 unfolding commandOf
 page-2C = refl
 
-pub page-0B : commandOf 0x0b ≡ EnableTransmit 2
+pub page-0B : commandOf 0x0b ≡ Enable Transmit 2
 unfolding commandOf
 page-0B = refl
 

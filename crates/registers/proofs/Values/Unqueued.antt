@@ -8,9 +8,9 @@ use Rattle.queues.specs.declared.queues.Way.the-variants.{Transmit, Receive}
 use Rattle.queues.specs.declared.queues.Side.{Side}
 use Rattle.registers.specs.declared.regs.Regs.{Regs}
 use Rattle.registers.specs.declared.commands.Command.{Command}
-use Rattle.registers.specs.declared.commands.Command.the-variants.{Illegal, DisableTransmitter, DisableReceiver, EnableTransmit, EnableReceive, LongPackets, ClearFlags, ClearTransmit, ClearReceive}
-use Rattle.bits.specs.Words.{clear, has, raiseIf, all}
-use Rattle.bits.specs.Flags.{RESET, AUTO-INC, CANCEL, BROADCASTS}
+use Rattle.registers.specs.declared.commands.Command.the-variants.{Illegal, Disable, Enable, LongPackets, ClearFlags, Clear}
+use Rattle.bits.specs.Words.{clear, has, all}
+use Rattle.bits.specs.Flags.{RESET, AUTO-INC, CANCEL}
 use Rattle.queues.specs.Queues as queues
 use Rattle.registers.specs.Sides.{chaining, sideOf, withSide}
 use Rattle.registers.specs.Fields.{with-configuration}
@@ -50,14 +50,14 @@ module _ (g : Regs) (c : chaining g ≡ false) where
     pub commanded-plain : (k : Command) → commanded g k ≡ plainCommanded g k
     unfolding commanded
     commanded-plain Illegal = refl
-    commanded-plain DisableTransmitter = rw (plain-disabled Transmit (sideOf Transmit g) (u .transmit))
-    commanded-plain DisableReceiver = rw (plain-disabled Receive (sideOf Receive g) (u .receive))
-    commanded-plain (EnableTransmit p) = rw (c, plain-enabled Transmit (sideOf Transmit g) (u .transmit) p)
-    commanded-plain (EnableReceive p b) = rw (c, plain-enabled Receive (sideOf Receive g) (u .receive) (raiseIf b BROADCASTS p))
+    commanded-plain (Disable Transmit) = rw (plain-disabled Transmit (sideOf Transmit g) (u .transmit))
+    commanded-plain (Disable Receive) = rw (plain-disabled Receive (sideOf Receive g) (u .receive))
+    commanded-plain (Enable Transmit p) = rw (c, plain-enabled Transmit (sideOf Transmit g) (u .transmit) p)
+    commanded-plain (Enable Receive p) = rw (c, plain-enabled Receive (sideOf Receive g) (u .receive) p)
     commanded-plain (LongPackets l) = refl
     commanded-plain (ClearFlags p r) = refl
-    commanded-plain ClearTransmit = rw (plain-cleared Transmit (sideOf Transmit g) (u .transmit))
-    commanded-plain ClearReceive = rw (plain-cleared Receive (sideOf Receive g) (u .receive))
+    commanded-plain (Clear Transmit) = rw (plain-cleared Transmit (sideOf Transmit g) (u .transmit))
+    commanded-plain (Clear Receive) = rw (plain-cleared Receive (sideOf Receive g) (u .receive))
 
     pub unqueued-received : Unqueued (received g)
     unqueued-received = rw received-plain (search u)
@@ -67,14 +67,13 @@ module _ (g : Regs) (c : chaining g ≡ false) where
       where
         stays : (k : Command) → Unqueued (plainCommanded g k)
         stays Illegal = u
-        stays DisableTransmitter = search u
-        stays DisableReceiver = search u
-        stays (EnableTransmit p) = search u
-        stays (EnableReceive p b) = search u
+        stays (Disable Transmit) = search u
+        stays (Disable Receive) = search u
+        stays (Enable Transmit p) = search u
+        stays (Enable Receive p) = search u
         stays (LongPackets l) = search u
         stays (ClearFlags p r) = search u
-        stays ClearTransmit = u
-        stays ClearReceive = u
+        stays (Clear w) = u
 
     pub unqueued-write : (k v : ℕ) → Unqueued (afterWrite g k v)
     unfolding afterWrite configured stepped seventhWritten

@@ -11,26 +11,17 @@ returns-2 : tie.Need-returns-2
 returns-2 c = simp (c .enum-told2 .given .1)
 
 returns-3 : tie.Need-returns-3
-returns-3 c = simp (c .enum-told3 .given .1)
+returns-3 c = simp (c .full .ensures, c .before .before .command .given .1)
 
 returns-4 : tie.Need-returns-4
-returns-4 c = simp (c .full .ensures, c .before .enum-told4 .given .1)
+unfolding transmitting receiving
+returns-4 c = simp (c .receiving .ensures, c .before .transmitting .ensures, c .before .before .enum-told3 .given .1)
 
 returns-5 : tie.Need-returns-5
-returns-5 c = simp (c .full2 .ensures, c .before .enum-told5 .given .1)
+returns-5 c = simp (c .enum-told4 .given .1)
 
 returns-6 : tie.Need-returns-6
-unfolding transmitting receiving
-returns-6 c = simp (c .receiving .ensures, c .before .transmitting .ensures, c .before .before .enum-told6 .given .1)
-
-returns-7 : tie.Need-returns-7
-returns-7 c = simp (c .enum-told7 .given .1)
-
-returns-8 : tie.Need-returns-8
-returns-8 c = simp (c .enum-told8 .given .1)
-
-returns-9 : tie.Need-returns-9
-returns-9 c = simp (c .enum-told9 .given .1)
+returns-6 c = simp (c .enum-told5 .given .1)
 
 pub busy-spec : {M : Type 1} → statement M
-busy-spec = tie.close (tie.spec (λ c. search needs) (λ c. search needs) (λ c. search needs) (λ c. search needs) (λ c κs. search needs) (λ c. search needs) (λ c κs. search needs) (λ c. search needs) (λ c κs. search needs) (λ c κs. search needs) (λ c. search needs) (λ c. search needs) (λ c. search needs) returns returns-2 returns-3 returns-4 returns-5 returns-6 returns-7 returns-8 returns-9)
+busy-spec = tie.close (tie.spec (λ c. search needs) (λ c. search needs) (λ c. search needs) (λ c κs. search needs) (λ c. search needs) (λ c κs. search needs) (λ c κs. search needs) (λ c. search needs) (λ c. search needs) returns returns-2 returns-3 returns-4 returns-5 returns-6)

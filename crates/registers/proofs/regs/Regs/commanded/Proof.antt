@@ -10,35 +10,23 @@ returns c = simp (c .enum-told .given .1)
 
 returns-2 : tie.Need-returns-2
 unfolding commanded
-returns-2 c = simp (c .disabled .ensures, c .before .enum-told2 .given .1)
+returns-2 c = simp (c .disabled .ensures, c .before .before .command .given .1)
 
 returns-3 : tie.Need-returns-3
 unfolding commanded
-returns-3 c = simp (c .disabled2 .ensures, c .before .enum-told3 .given .1)
+returns-3 c = simp (c .enabled .ensures, c .before .before .command2 .given .1)
 
 returns-4 : tie.Need-returns-4
 unfolding commanded
-returns-4 c = simp (c .enabled .ensures, c .before .before .command .given .1)
+returns-4 c = simp (c .before .command3 .given .1)
 
 returns-5 : tie.Need-returns-5
 unfolding commanded
-returns-5 c = simp (c .enabled2 .ensures, c .before .choose .ensures, c .before .before .before .command2 .given .1)
+returns-5 c = simp (c .choose2 .ensures, c .before .before .choose .ensures, c .before .before .before .before .command4 .given .1)
 
 returns-6 : tie.Need-returns-6
 unfolding commanded
-returns-6 c = simp (c .before .command3 .given .1)
-
-returns-7 : tie.Need-returns-7
-unfolding commanded
-returns-7 c = simp (c .choose3 .ensures, c .before .before .choose2 .ensures, c .before .before .before .before .command4 .given .1)
-
-returns-8 : tie.Need-returns-8
-unfolding commanded
-returns-8 c = simp (c .cleared .ensures, c .before .enum-told4 .given .1)
-
-returns-9 : tie.Need-returns-9
-unfolding commanded
-returns-9 c = simp (c .cleared2 .ensures, c .before .enum-told5 .given .1)
+returns-6 c = simp (c .cleared .ensures, c .before .before .command5 .given .1)
 
 pub commanded-spec : {M : Type 1} → statement M
-commanded-spec = tie.close (tie.spec (λ c. search needs) (λ c. search needs) (λ c κs. search needs) (λ c. search needs) (λ c κs. search needs) (λ c. search needs) (λ c κs. search needs) (λ c. search needs) (λ c κs. search needs) (λ c κs. search needs) (λ c. search needs) (λ c. search needs) (λ c κs. search needs) (λ c κs. search needs) (λ c. search needs) (λ c κs. search needs) (λ c. search needs) (λ c κs. search needs) returns returns-2 returns-3 returns-4 returns-5 returns-6 returns-7 returns-8 returns-9)
+commanded-spec = tie.close (tie.spec (λ c. search needs) (λ c. search needs) (λ c κs. search needs) (λ c. search needs) (λ c κs. search needs) (λ c. search needs) (λ c. search needs) (λ c κs. search needs) (λ c κs. search needs) (λ c. search needs) (λ c κs. search needs) returns returns-2 returns-3 returns-4 returns-5 returns-6)

@@ -1,4 +1,4 @@
--- `registers::regs::Regs::odd_page` meets its contract, command by command. Assumes nothing.
+-- `registers::regs::Regs::odd_page` meets its contract. Assumes nothing.
 use borrow.Author.Needs.{needs}
 use Rattle.registers.proofs.regs.Regs.odd_page.Statement.{statement}
 use Rattle.registers.proofs.regs.Regs.odd_page.Tie as tie
@@ -10,29 +10,16 @@ returns-2 : tie.Need-returns-2
 returns-2 c = simp (c .enum-told2 .given .1)
 
 returns-3 : tie.Need-returns-3
-returns-3 c = simp (c .enum-told3 .given .1)
+returns-3 c = simp (c .before .before .command .given .1)
 
 returns-4 : tie.Need-returns-4
-returns-4 c = simp (c .before .before .command .given .1)
+returns-4 c = simp (c .enum-told3 .given .1)
 
 returns-5 : tie.Need-returns-5
-returns-5 c = simp (c .before .before .command2 .given .1)
+returns-5 c = simp (c .enum-told4 .given .1)
 
 returns-6 : tie.Need-returns-6
-returns-6 c = simp (c .enum-told4 .given .1)
-
-returns-7 : tie.Need-returns-7
-returns-7 c = simp (c .enum-told5 .given .1)
-
-returns-8 : tie.Need-returns-8
-returns-8 c = simp (c .enum-told6 .given .1)
-
-returns-9 : tie.Need-returns-9
-returns-9 c = simp (c .enum-told7 .given .1)
+returns-6 c = simp (c .enum-told5 .given .1)
 
 pub odd-page-spec : {M : Type 1} → statement M
-odd-page-spec =
-    tie.close
-    (tie.spec (λ c. search needs) (λ c. search needs) (λ c. search needs) (λ c. search needs)
-    (λ c. search needs) (λ c. search needs) (λ c. search needs) (λ c. search needs) (λ c. search needs)
-    returns returns-2 returns-3 returns-4 returns-5 returns-6 returns-7 returns-8 returns-9)
+odd-page-spec = tie.close (tie.spec (λ c. search needs) (λ c. search needs) (λ c. search needs) (λ c. search needs) (λ c. search needs) (λ c. search needs) returns returns-2 returns-3 returns-4 returns-5 returns-6)
