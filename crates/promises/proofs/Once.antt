@@ -3,6 +3,7 @@ pub mod Same
 pub mod Sixty
 pub mod Bits
 pub mod Queues
+pub mod Commands
 pub mod Registers
 pub mod Card
 pub mod Table

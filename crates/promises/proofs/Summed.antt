@@ -4,8 +4,9 @@ use mathlib.Core.Path.{_≡_, sym, ap, _∙_}
 use mathlib.Core.List.{List, _∷_, map}
 use Prim.Native.Nat.{ℕ, _+_}
 use lib.ListN.{take}
+use Rattle.commands.proofs.Carried.{page-2C, page-0B}
 use Rattle.card.proofs.CardSums.{count-2, count-3, count-255, long-3, long-4, long-255}
-use Rattle.registers.proofs.Values.Sums.{page-2C, page-0B, nid-255, pointer-1023, status-reset, status-written, shown-reset, shown-cleared}
+use Rattle.registers.proofs.Values.Sums.{nid-255, pointer-1023, status-reset, status-written, shown-reset, shown-cleared}
 use Rattle.table.specs.Network.{rows, topId}
 use Rattle.table.proofs.Shaped.Alike.{bytes-rams}
 use Rattle.desk.specs.Lap.{nodes, answers, invitations, takers, lapSteps}

@@ -2,6 +2,7 @@ pub mod Once
 pub mod LapReads
 pub mod OfBits
 pub mod OfQueues
+pub mod OfCommands
 pub mod OfRegisters
 pub mod OfCard
 pub mod OfTable

@@ -26,6 +26,7 @@ use Rattle.desk.specs.Lap.{nodes, after, answers, takers, lapSteps, lapRefusals
 use Rattle.desk.specs.Demand.{Call, table, steps, answersOf, Throughout, LapOf, FirstLapOf}
 use Rattle.promises.specs.OfBits.{OfBits}
 use Rattle.promises.specs.OfQueues.{OfQueues}
+use Rattle.promises.specs.OfCommands.{OfCommands}
 use Rattle.promises.specs.OfRegisters.{OfRegisters}
 use Rattle.promises.specs.OfCard.{OfCard}
 use Rattle.promises.specs.OfTable.{OfTable}
@@ -122,6 +123,7 @@ Sizes = (count next : ℕ) (long : Bool) → count < 256 → next < 256 → malf
 pub record OneOutcome : Type 0 where
   pub bits : OfBits
   pub queues : OfQueues
+  pub commands : OfCommands
   pub registers : OfRegisters
   pub card : OfCard
   pub table : OfTable

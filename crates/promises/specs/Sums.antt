@@ -7,11 +7,11 @@ use Prim.Native.Nat.{ℕ}
 use lib.ListN.{take}
 use Rattle.registers.specs.declared.regs.Regs.{Regs}
 use Rattle.card.specs.declared.packets.Shape.the-variants.{Malformed}
-use Rattle.registers.specs.declared.commands.Command.the-variants.{Enable}
+use Rattle.commands.specs.declared.commands.Command.the-variants.{Enable}
 use Rattle.queues.specs.declared.queues.Way.the-variants.{Transmit, Receive}
 use Rattle.bits.specs.Words.{has}
 use Rattle.bits.specs.Flags.{AUTO-INC, RESET, CCHEN}
-use Rattle.registers.specs.Commands.{commandOf}
+use Rattle.commands.specs.Commands.{commandOf}
 use Rattle.registers.specs.Registers.{pointer, stepped, shown, hardwareReset, configured, commanded}
 use Rattle.card.specs.Packets.{shapeOf, dataBytes}
 use Rattle.registers.specs.Events.{risenNid}

@@ -1,4 +1,4 @@
--- Registers by value: those that fit, what each call and event leaves of them, and the command table.
+-- Registers by value: those that fit, and what each call and event leaves of them.
 pub mod Fits
 pub mod FitBytes
 pub mod FitEvents
@@ -12,6 +12,5 @@ pub mod Chained
 pub mod Ends
 pub mod Listens
 pub mod Loads
-pub mod Legal
 pub mod Sums
 pub mod Plains

@@ -2,7 +2,6 @@ pub mod Numbers
 pub mod Fields
 pub mod Sides
 pub mod Fit
-pub mod Commands
 pub mod Registers
 pub mod Layout
 pub mod Refusals

@@ -7,17 +7,17 @@ use Prim.Native.Nat.{ℕ, _+_, _%_, _<_}
 use lib.Dec.{eqb}
 use Rattle.registers.specs.declared.regs.Regs.{Regs}
 use Rattle.queues.specs.declared.queues.Way.the-variants.{Transmit, Receive}
-use Rattle.registers.specs.declared.commands.Command.{Command}
-use Rattle.registers.specs.declared.commands.Command.the-variants.{Illegal, Disable, Enable, LongPackets, ClearFlags, Clear}
+use Rattle.commands.specs.declared.commands.Command.{Command}
+use Rattle.commands.specs.declared.commands.Command.the-variants.{Illegal, Disable, Enable, LongPackets, ClearFlags, Clear}
 use Rattle.bits.specs.Words.{pick, all, among, clear, has, raise, lower}
 use Rattle.bits.specs.Flags.{RI, POR, RECON, TMA, TA, RESET, CCHEN, RDDATA, CANCEL, BROADCASTS, only, maskBits, setupBits, modeBits, transmitBits, receiveBits}
 use Rattle.registers.specs.Numbers.{REGISTER, VALUE, NOTREADY, DIRECTION, BUSY, ONLINE, PAGE, Refusal, _when_}
 use Rattle.registers.specs.Fields.{with-status, with-diagnostic, with-mask, with-configuration, with-transmit, with-receive, with-long}
 use Rattle.registers.specs.Sides.{chaining}
 use Rattle.registers.specs.Fit.{awake, onLine, named, fit}
-use Rattle.registers.specs.Commands.{legalBytes, commandOf}
+use Rattle.commands.specs.Commands.{legalBytes, commandOf, illegal}
 use Rattle.registers.specs.Registers.{sub, shown, interrupt, configured, commanded, writesId}
-use Rattle.registers.specs.Refusals.{noRegister, illegal, busy, oddPage, writeRefusals}
+use Rattle.registers.specs.Refusals.{noRegister, busy, oddPage, writeRefusals}
 use Rattle.registers.specs.Events.{received, cancelled, sent, receiving, takesBroadcasts, transmitPage, receivePage}
 
 -- byte 13, and byte 14, set to another value

@@ -1,17 +1,17 @@
 -- Document 01, "Numbers a caller may get": the refusals of a register access.
 -- Assumes nothing.
-use mathlib.Core.Bool.{Bool, true, false, not, _&&_, _||_}
+use mathlib.Core.Bool.{Bool, false, not, _&&_, _||_}
 use mathlib.Core.List.{List, [], _∷_}
 use Prim.Native.Nat.{ℕ}
 use lib.Dec.{eqb, ltb}
 use Rattle.registers.specs.declared.regs.Regs.{Regs}
-use Rattle.registers.specs.declared.commands.Command.{Command}
-use Rattle.registers.specs.declared.commands.Command.the-variants.{Illegal, Disable, Enable, LongPackets, ClearFlags, Clear}
+use Rattle.commands.specs.declared.commands.Command.{Command}
+use Rattle.commands.specs.declared.commands.Command.the-variants.{Illegal, Disable, Enable, LongPackets, ClearFlags, Clear}
 use Rattle.bits.specs.Words.{clear, has}
 use Rattle.bits.specs.Flags.{RI, TA, RDDATA, only, maskBits, setupBits, modeBits}
 use Rattle.registers.specs.Numbers.{REGISTER, VALUE, NOTREADY, DIRECTION, BUSY, ONLINE, PAGE, Refusal, _when_, told}
 use Rattle.registers.specs.Fit.{awake, onLine}
-use Rattle.registers.specs.Commands.{commandOf}
+use Rattle.commands.specs.Commands.{commandOf, illegal}
 use Rattle.queues.specs.Queues.{full}
 use Rattle.registers.specs.Sides.{chaining, sideOf}
 use Rattle.registers.specs.Registers.{sub, changesChaining, writesId}
@@ -19,15 +19,6 @@ use Rattle.registers.specs.Registers.{sub, changesChaining, writesId}
 -- "3 REGISTER: above 7; 5; 7 with sub-address 11; write of 7 and read of 7 alike"
 unfoldable pub noRegister : Regs → ℕ → Bool
 noRegister g k = ltb 7 k || eqb k 5 || eqb k 7 && eqb (sub g) 3
-
--- C-11: "VALUE no longer meets .. commands 00 and 08 in a chaining row"
-abbrev pub illegal : Bool → Command → Bool
-illegal chaining Illegal = true
-illegal chaining (Disable w) = false
-illegal chaining (Enable w entry) = false
-illegal chaining (LongPackets l) = false
-illegal chaining (ClearFlags p r) = false
-illegal chaining (Clear w) = not chaining
 
 -- "4 VALUE: unnamed bit, .., illegal command"; a configuration has no unnamed bit
 unfoldable pub badValue : Regs → ℕ → ℕ → Bool

@@ -5,14 +5,14 @@ use Prim.Native.Nat.{ℕ, _+_, _*_, _/_, _%_}
 use lib.Bits.{bitAnd, bitOr}
 use lib.Dec.{eqb}
 use Rattle.registers.specs.declared.regs.Regs.{Regs}
-use Rattle.registers.specs.declared.commands.Command.{Command}
-use Rattle.registers.specs.declared.commands.Command.the-variants.{Illegal, Disable, Enable, LongPackets, ClearFlags, Clear}
+use Rattle.commands.specs.declared.commands.Command.{Command}
+use Rattle.commands.specs.declared.commands.Command.the-variants.{Illegal, Disable, Enable, LongPackets, ClearFlags, Clear}
 use Rattle.bits.specs.Words.{pick, clear, has, raiseIf, lower}
 use Rattle.bits.specs.Flags.{RI, POR, RECON, TMA, TA, TRI, shownRI, shownTA, TTA, RESET, CCHEN, RDDATA, AUTO-INC}
 use Rattle.registers.specs.Fields.{with-id, with-status, with-diagnostic, with-mask, with-configuration, with-setup, with-tentative, with-high, with-low, with-mode, with-transmit, with-receive, with-long}
 use Rattle.queues.specs.Queues.{none, cleared, enabled, disabled}
 use Rattle.registers.specs.Sides.{chaining, sideOf, withSide, tta, tri}
-use Rattle.registers.specs.Commands.{commandOf}
+use Rattle.commands.specs.Commands.{commandOf}
 
 -- ".. then 1,024 of RAM"
 abbrev pub ramBytes : ℕ

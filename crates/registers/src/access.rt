@@ -2,8 +2,6 @@
 // and the effects of the commands.
 ghost use mathlib.Core.Path.{_≡_};
 ghost use Rattle.registers.specs.Registers.{sub, pointer, stepped, seventh, shown, readValue, afterRead, changesChaining, rechained, configured, commanded, writesId, seventhWritten, afterWrite};
-use crate::commands::Command;
-use crate::commands::decode;
 use crate::regs::AFTER_RESET;
 use crate::regs::Regs;
 use bits::choice::choose;
@@ -20,6 +18,8 @@ use bits::flags::TA;
 use bits::flags::TMA;
 use bits::flags::TRI;
 use bits::flags::TTA;
+use commands::commands::Command;
+use commands::commands::decode;
 use queues::queues::Queue;
 
 impl Regs {

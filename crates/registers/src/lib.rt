@@ -1,7 +1,6 @@
 // The registers of one COM20010 card by value (document 01): the commands, the two sides, what an access or the line
 // does to them, and what an access is refused with.
 pub mod access;
-pub mod commands;
 pub mod events;
 pub mod numbers;
 pub mod refusals;

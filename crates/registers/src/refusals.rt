@@ -2,8 +2,6 @@
 ghost use mathlib.Core.Path.{_≡_};
 ghost use Rattle.registers.specs.Numbers.{told};
 ghost use Rattle.registers.specs.Refusals.{noRegister, badValue, busy, chainBusy, oddPage, readRefusals, writeRefusals};
-use crate::commands::Command;
-use crate::commands::decode;
 use crate::numbers::BUSY;
 use crate::numbers::DIRECTION;
 use crate::numbers::DONE;
@@ -18,6 +16,8 @@ use bits::flags::MASK;
 use bits::flags::MODE;
 use bits::flags::RDDATA;
 use bits::flags::SETUP;
+use commands::commands::Command;
+use commands::commands::decode;
 
 impl Regs {
     // REGISTER: no such register, or none at this sub-address.

@@ -2,7 +2,7 @@
 -- Assumes nothing.
 use mathlib.Core.Path.{_≡_, refl, _∙_}
 use mathlib.Core.Bool.{true, false}
-use Prim.Native.Nat.{ℕ, _-_, _<_}
+use Prim.Native.Nat.{ℕ, _-_}
 use lib.Bits.{bitAnd}
 use Rattle.queues.specs.declared.queues.Way.{Way}
 use Rattle.queues.specs.declared.queues.Way.the-variants.{Transmit, Receive}
@@ -12,15 +12,10 @@ use Rattle.bits.specs.Words.{clear, raise, lower}
 use Rattle.bits.specs.Flags.{RI, TMA, TA, LOW2, only, statusBits, diagnosticBits, maskBits, setupBits, modeBits}
 use Rattle.registers.specs.Fields.{with-id, with-status, with-diagnostic, with-mask, with-setup, with-tentative, with-nid, with-high, with-low, with-mode, with-long}
 use Rattle.registers.specs.Sides.{chaining, sideOf, withSide}
-use Rattle.bits.proofs.Words.Table.{by-table}
 use Rattle.bits.proofs.Words.Masks.{lower-other, raise-other}
 use Rattle.queues.proofs.Fits.{Fits, fits-status, fits-long}
 use Rattle.queues.proofs.Apart.{Apart}
 use Rattle.registers.proofs.Values.Fits.{Fit}
-
--- the bits 1-0 alone are within any byte that has them
-pub low2 : (f : ℕ) → bitAnd 0 (255 - f) ≡ 0 → bitAnd 1 (255 - f) ≡ 0 → bitAnd 2 (255 - f) ≡ 0 → bitAnd 3 (255 - f) ≡ 0 → (p : ℕ) → p < 4 → only f p ≡ true
-low2 f a b c d p h = by-table false (only f) (λ p. true) 4 (rw (a, b, c, d)) p h
 
 module _ (g : Regs) (f : Fit g) where
   -- ---- a byte that no other has to agree with

@@ -15,16 +15,18 @@ use Rattle.bits.specs.Flags.{RI, TA, LOW2, AUTO-INC, RESET, CCHEN, only, maskBi
 use Rattle.registers.specs.Fields.{with-configuration}
 use Rattle.registers.specs.Sides.{chaining, sideOf}
 use Rattle.registers.specs.Fit.{fit}
-use Rattle.registers.specs.Commands.{commandOf}
+use Rattle.commands.specs.Commands.{commandOf, illegal}
 use Rattle.registers.specs.Registers.{sub, risen, stepped, afterRead, hardwareReset, changesChaining, configured, seventhWritten, afterWrite}
 use Rattle.registers.specs.Numbers.{REGISTER, VALUE, BUSY, PAGE, refuses}
-use Rattle.registers.specs.Refusals.{noRegister, illegal, badValue, busy, chainBusy, writeRefusals, writeNumber}
+use Rattle.registers.specs.Refusals.{noRegister, badValue, busy, chainBusy, writeRefusals, writeNumber}
 use Rattle.bits.proofs.Words.Bools.{or-left, or-right, or-four, pick-of}
 use Rattle.queues.proofs.Fits.{Fits, fits-none}
 use Rattle.registers.proofs.Told.Smallest.{none-refuses}
+use Rattle.bits.proofs.Words.Table.{low2}
 use Rattle.registers.proofs.Values.Fits.{Fit, rules-fit}
 use Rattle.registers.proofs.Values.FitBytes as keeps
-use Rattle.registers.proofs.Values.FitCommands.{small, fit-commanded}
+use Rattle.registers.proofs.Values.FitCommands.{fit-commanded}
+use Rattle.commands.proofs.Carried.{small}
 
 module _ (g : Regs) (f : Fit g) where
   abbrev t : Side
@@ -38,7 +40,7 @@ module _ (g : Regs) (f : Fit g) where
   fit-stepped =
       let h : risen g / 256 < 4 = omega arith in
       pick-of Fit (has AUTO-INC (g .mode))
-      (λ e. keeps.fit-pointer g f (risen g / 256) (risen g % 256) (keeps.low2 LOW2 refl refl refl refl (risen g / 256) h)) (λ e. f)
+      (λ e. keeps.fit-pointer g f (risen g / 256) (risen g % 256) (low2 LOW2 refl refl refl refl (risen g / 256) h)) (λ e. f)
 
   -- a configuration with the same CCHEN; with another, where nothing waits; with RESET
   fit-configured : (v : ℕ) → chainBusy g v ≡ false → Fit (configured g v)
@@ -118,7 +120,7 @@ module _ (g : Regs) (f : Fit g) where
         pick-of Fit (eqb k 0) (λ i. keeps.fit-mask g f v (not-false _ (rw i at (good .0))))
         (λ n0. pick-of Fit (eqb k 1) (λ i. fit-commanded g f (commandOf v) (small v) (rw i at (idle .0)) (rw i at (none PAGE)))
         (λ n1. pick-of Fit (eqb k 2) (λ i. keeps.fit-mode g f v (not-false _ (rw i at (good .2))))
-        (λ n2. pick-of Fit (eqb k 3) (λ i. keeps.fit-pointer g f (g .mode % 4) v (keeps.low2 LOW2 refl refl refl refl (g .mode % 4) (omega arith)))
+        (λ n2. pick-of Fit (eqb k 3) (λ i. keeps.fit-pointer g f (g .mode % 4) v (low2 LOW2 refl refl refl refl (g .mode % 4) (omega arith)))
         (λ n3. pick-of Fit (eqb k 4) (λ i. fit-stepped)
         (λ n4. pick-of Fit (eqb k 6) (λ i. fit-configured v (rw i at (idle .1)))
         (λ n6. pick-of Fit (eqb k 7) (λ i. at-seven (eqb-true _ _ i)) (λ n7. f)))))))

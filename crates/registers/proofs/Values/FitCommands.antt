@@ -1,56 +1,26 @@
 -- Registers that fit stay so through a command that is not refused.
 -- Assumes nothing.
-use mathlib.Core.Path.{_≡_, refl, _∙_}
+use mathlib.Core.Path.{_≡_, refl}
 use mathlib.Core.Bool.{Bool, true, false, not, _&&_, _||_}
-use Prim.Native.Nat.{ℕ, _-_, _<_}
-use native.Mathlib.Omega.{arith}
+use Prim.Native.Nat.{ℕ, _-_}
 use lib.Bits.{bitAnd}
 use lib.Dec.{eqb}
 use Rattle.registers.specs.declared.regs.Regs.{Regs}
-use Rattle.registers.specs.declared.commands.Command.{Command}
-use Rattle.registers.specs.declared.commands.Command.the-variants.{Illegal, Disable, Enable, LongPackets, ClearFlags, Clear}
-use Rattle.bits.specs.Words.{pick, clear, has, raiseIf, lower}
-use Rattle.bits.specs.Flags.{RI, POR, RECON, TMA, TA, BROADCASTS, only, statusBits, transmitBits, receiveBits}
+use Rattle.commands.specs.declared.commands.Command.{Command}
+use Rattle.commands.specs.declared.commands.Command.the-variants.{Illegal, Disable, Enable, LongPackets, ClearFlags, Clear}
+use Rattle.bits.specs.Words.{pick, clear, lower}
+use Rattle.bits.specs.Flags.{RI, POR, RECON, TMA, TA, only, statusBits}
 use Rattle.registers.specs.Fields.{with-status}
 use Rattle.registers.specs.Sides.{chaining, sideOf}
-use Rattle.registers.specs.Commands.{pageOf, commandOf}
 use Rattle.registers.specs.Registers.{commanded}
 use Rattle.registers.specs.Refusals.{busy, oddPage}
-use Rattle.bits.proofs.Words.Bools.{or-left, or-right, pick-of}
+use Rattle.bits.proofs.Words.Bools.{or-left, or-right}
 use Rattle.bits.proofs.Words.Table.{by-table}
-use Rattle.bits.proofs.Words.Masks.{raise-other}
-use Rattle.queues.specs.Queues.{oldestBits}
 use Rattle.queues.proofs.Changes.{fits-enabled, fits-disabled, fits-cleared}
 use Rattle.queues.proofs.Apart.{enabled-apart, disabled-apart, cleared-apart}
 use Rattle.registers.proofs.Values.Fits.{Fit, fit-of}
+use Rattle.commands.proofs.Carried.{Small}
 use Rattle.registers.proofs.Values.FitBytes as keeps
-
--- a receive page with its broadcasts bit
-wanted : (p : ℕ) → only receiveBits p ≡ true → (b : Bool) → only receiveBits (raiseIf b BROADCASTS p) ≡ true
-wanted p w true = raise-other (255 - receiveBits) BROADCASTS p refl ∙ w
-wanted p w false = w
-
--- what a decoded command carries has no unnamed bit
-abbrev pub Small : Command → Type 0
-Small Illegal = Unit
-Small (Disable w) = Unit
-Small (Enable w entry) = only (oldestBits w) entry ≡ true
-Small (LongPackets l) = l < 2
-Small (ClearFlags p r) = Unit
-Small (Clear w) = Unit
-
-pub small : (c : ℕ) → Small (commandOf c)
-unfolding commandOf
-small c =
-    let page : pageOf c < 4 = omega arith in
-    pick-of Small (eqb c 0x00) (λ _. tt)
-    (λ _. pick-of Small (eqb c 0x08) (λ _. tt)
-    (λ _. pick-of Small (eqb c 0x01) (λ _. tt)
-    (λ _. pick-of Small (eqb c 0x02) (λ _. tt)
-    (λ _. pick-of Small (eqb (bitAnd c 0xd7) 0x03) (λ _. keeps.low2 transmitBits refl refl refl refl (pageOf c) page)
-    (λ _. pick-of Small (eqb (bitAnd c 0x57) 0x04) (λ _. wanted (pageOf c) (keeps.low2 receiveBits refl refl refl refl (pageOf c) page) (has 0x80 c))
-    (λ _. pick-of Small (eqb (bitAnd c 0xf7) 0x05) (λ _. omega arith)
-    (λ _. pick-of Small (eqb (bitAnd c 0xe7) 0x06) (λ _. tt) (λ _. tt))))))))
 
 -- a flag that is cleared where b says so
 flag : (g : Regs) → Fit g → (b : Bool) (m : ℕ) → bitAnd (255 - m) (255 - statusBits) ≡ 255 - statusBits → bitAnd (255 - m) TA ≡ TA

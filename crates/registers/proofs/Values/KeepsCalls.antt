@@ -7,11 +7,11 @@ use Prim.Native.Nat.{ℕ}
 use lib.Dec.{eqb}
 use Rattle.queues.specs.declared.queues.Way.the-variants.{Transmit, Receive}
 use Rattle.registers.specs.declared.regs.Regs.{Regs}
-use Rattle.registers.specs.declared.commands.Command.{Command}
-use Rattle.registers.specs.declared.commands.Command.the-variants.{Illegal, Disable, Enable, LongPackets, ClearFlags, Clear}
+use Rattle.commands.specs.declared.commands.Command.{Command}
+use Rattle.commands.specs.declared.commands.Command.the-variants.{Illegal, Disable, Enable, LongPackets, ClearFlags, Clear}
 use Rattle.bits.specs.Words.{pick, clear, has}
 use Rattle.bits.specs.Flags.{RESET, AUTO-INC}
-use Rattle.registers.specs.Commands.{commandOf}
+use Rattle.commands.specs.Commands.{commandOf}
 use Rattle.registers.specs.Registers.{sub, stepped, afterRead, softwareReset, changesChaining, rechained, configured, commanded, seventhWritten, afterWrite}
 use Rattle.registers.specs.Layout.{at-id, at-status, at-diagnostic, at-mask, at-configuration, at-setup, at-tentative, at-high, at-low, at-mode, at-transmit, at-receive, at-long, at-second-transmit, at-second-receive, at-sent, at-received, queueBytes, readChanges, writeBytes}
 use Rattle.bits.proofs.Words.Bools.{pick-of, pick-both}

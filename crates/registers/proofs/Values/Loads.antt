@@ -8,7 +8,7 @@ use Rattle.registers.specs.declared.regs.Regs.{Regs}
 use Rattle.bits.specs.Words.{pick}
 use Rattle.registers.specs.Numbers.{refuse}
 use Rattle.registers.specs.Fit.{awake, onLine}
-use Rattle.registers.specs.Commands.{commandOf}
+use Rattle.commands.proofs.Carried.{command-0D, command-84}
 use Rattle.registers.specs.Registers.{hardwareReset, configured, commanded, writesId, seventhWritten, afterWrite}
 use Rattle.registers.specs.Refusals.{noRegister, badValue, writeRefusals, writeNumber}
 
@@ -43,8 +43,8 @@ pub record Loads (i : ℕ) (long receive : Bool) : Type 0 where
   pub id : joined i long receive .id ≡ i
 
 pub loads : (i : ℕ) → eqb i 0 ≡ false → (long receive : Bool) → Loads i long receive
-unfolding hardwareReset afterWrite configured seventhWritten commanded commandOf writesId noRegister badValue writeRefusals refuse awake onLine
-loads i n true true = search n
-loads i n true false = search n
-loads i n false true = search n
-loads i n false false = search n
+unfolding hardwareReset afterWrite configured seventhWritten commanded writesId noRegister badValue writeRefusals refuse awake onLine
+loads i n true true = search (n, command-0D, command-84)
+loads i n true false = search (n, command-0D, command-84)
+loads i n false true = search (n, command-0D, command-84)
+loads i n false false = search (n, command-0D, command-84)

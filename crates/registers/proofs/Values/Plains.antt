@@ -8,14 +8,14 @@ use lib.Bits.{bitAnd}
 use lib.Dec.{eqb, lit<}
 use Rattle.queues.specs.declared.queues.Way.the-variants.{Transmit, Receive}
 use Rattle.registers.specs.declared.regs.Regs.{Regs}
-use Rattle.registers.specs.declared.commands.Command.{Command}
-use Rattle.registers.specs.declared.commands.Command.the-variants.{Illegal, Disable, Enable, LongPackets, ClearFlags, Clear}
+use Rattle.commands.specs.declared.commands.Command.{Command}
+use Rattle.commands.specs.declared.commands.Command.the-variants.{Illegal, Disable, Enable, LongPackets, ClearFlags, Clear}
 use Rattle.bits.specs.Words.{all, among, clear, has}
 use Rattle.bits.specs.Flags.{TMA, TA, CCHEN, only, maskBits, modeBits}
 use Rattle.queues.specs.Queues as queues
 use Rattle.registers.specs.Sides.{chaining, sideOf, tta}
 use Rattle.registers.specs.Fit.{named, fit}
-use Rattle.registers.specs.Commands.{commandOf, legalBytes}
+use Rattle.commands.specs.Commands.{commandOf, legalBytes}
 use Rattle.registers.specs.Registers.{shown, interrupt, changesChaining, configured}
 use Rattle.registers.specs.Refusals.{badValue, busy, chainBusy, writeRefusals}
 use Rattle.registers.specs.Events.{takesBroadcasts, transmitPage, receivePage}
@@ -24,7 +24,7 @@ use Rattle.bits.proofs.Words.Bools.{and-left, and-right, or-false, or-first, ho
 use Rattle.queues.proofs.Plain.{Alone, plain-fit}
 use Rattle.registers.proofs.Values.Fits.{fit-rules}
 use Rattle.registers.proofs.Values.Unqueued.{Unqueued, unqueued-fit, received-plain, sent-plain, commanded-plain, cancelled-plain}
-use Rattle.registers.proofs.Values.Legal.{plain-legal}
+use Rattle.commands.proofs.Legal.{plain-legal}
 
 module _ (g : Regs) (c : chaining g ≡ false) where
   -- ---- the refusals of a write

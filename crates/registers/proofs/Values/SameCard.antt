@@ -7,13 +7,13 @@ use borrow.Author.Tests.{eqb-true}
 use lib.Dec.{eqb, lit<}
 use Rattle.registers.specs.declared.regs.Regs.{Regs}
 use Rattle.queues.specs.declared.queues.Way.the-variants.{Transmit, Receive}
-use Rattle.registers.specs.declared.commands.Command.{Command}
-use Rattle.registers.specs.declared.commands.Command.the-variants.{Illegal, Disable, Enable, LongPackets, ClearFlags, Clear}
+use Rattle.commands.specs.declared.commands.Command.{Command}
+use Rattle.commands.specs.declared.commands.Command.the-variants.{Illegal, Disable, Enable, LongPackets, ClearFlags, Clear}
 use Rattle.bits.specs.Words.{pick, clear, has}
 use Rattle.bits.specs.Flags.{AUTO-INC, RESET}
 use Rattle.registers.specs.Fields.{with-configuration}
 use Rattle.registers.specs.Fit.{awake, onLine}
-use Rattle.registers.specs.Commands.{commandOf}
+use Rattle.commands.specs.Commands.{commandOf}
 use Rattle.registers.specs.Registers.{sub, stepped, afterRead, hardwareReset, changesChaining, configured, commanded, writesId, seventhWritten, afterWrite}
 use Rattle.registers.specs.Events.{burst, recovered, heard, answered, risenNid, received, cancelled, sent}
 use Rattle.bits.proofs.Words.Bools.{pick-of, cases}

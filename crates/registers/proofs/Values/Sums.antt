@@ -5,24 +5,14 @@ use mathlib.Core.Bool.{true}
 use Prim.Native.Nat.{ℕ}
 use borrow.Author.Tests.{not-true}
 use Rattle.registers.specs.declared.regs.Regs.{Regs}
-use Rattle.registers.specs.declared.commands.Command.the-variants.{Enable}
-use Rattle.queues.specs.declared.queues.Way.the-variants.{Transmit, Receive}
 use Rattle.bits.specs.Words.{clear, has}
 use Rattle.bits.specs.Flags.{AUTO-INC, RESET, CCHEN}
 use Rattle.registers.specs.Fields.{with-configuration}
-use Rattle.registers.specs.Commands.{commandOf}
+use Rattle.commands.specs.Commands.{commandOf}
+use Rattle.commands.proofs.Carried.{command-0E}
 use Rattle.registers.specs.Registers.{pointer, stepped, shown, hardwareReset, changesChaining, configured, commanded}
 use Rattle.registers.specs.Events.{risenNid}
 use Rattle.bits.proofs.Words.Bools.{pick-of}
-
--- the pages of two commands
-pub page-2C : commandOf 0x2c ≡ Enable Receive 3
-unfolding commandOf
-page-2C = refl
-
-pub page-0B : commandOf 0x0b ≡ Enable Transmit 2
-unfolding commandOf
-page-0B = refl
 
 -- NID, pointer and status
 pub nid-255 : (g : Regs) → g .nid ≡ 255 → risenNid g .nid ≡ 0
@@ -54,5 +44,5 @@ module _ (v : ℕ) where
   shown-reset c = rw (reset-then, c)
 
   pub shown-cleared : has CCHEN v ≡ true → shown (commanded (configured hardwareReset v) (commandOf 0x0e)) ≡ 0x60
-  unfolding shown hardwareReset commanded commandOf
-  shown-cleared c = rw (reset-then, c)
+  unfolding shown hardwareReset commanded
+  shown-cleared c = rw (command-0E, reset-then, c)

@@ -7,15 +7,15 @@ use lib.Dec.{eqb}
 use Rattle.queues.specs.declared.queues.Way.the-variants.{Transmit, Receive}
 use Rattle.queues.specs.declared.queues.Side.{Side}
 use Rattle.registers.specs.declared.regs.Regs.{Regs}
-use Rattle.registers.specs.declared.commands.Command.{Command}
-use Rattle.registers.specs.declared.commands.Command.the-variants.{Illegal, Disable, Enable, LongPackets, ClearFlags, Clear}
+use Rattle.commands.specs.declared.commands.Command.{Command}
+use Rattle.commands.specs.declared.commands.Command.the-variants.{Illegal, Disable, Enable, LongPackets, ClearFlags, Clear}
 use Rattle.bits.specs.Words.{clear, has, all}
 use Rattle.bits.specs.Flags.{RESET, AUTO-INC, CANCEL}
 use Rattle.queues.specs.Queues as queues
 use Rattle.registers.specs.Sides.{chaining, sideOf, withSide}
 use Rattle.registers.specs.Fields.{with-configuration}
 use Rattle.registers.specs.Fit.{named, fit}
-use Rattle.registers.specs.Commands.{commandOf}
+use Rattle.commands.specs.Commands.{commandOf}
 use Rattle.registers.specs.Registers.{sub, stepped, changesChaining, configured, commanded, seventhWritten, afterWrite}
 use Rattle.registers.specs.Events.{received, transmitCancelled, receiveCancelled, cancelled, sent}
 use Rattle.registers.specs.Plain.{plainCommanded, plainReceived, plainTransmitCancelled, plainReceiveCancelled, plainSent}

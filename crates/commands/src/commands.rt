@@ -1,7 +1,6 @@
 // Document 01, "Twenty command bytes are legal, in hex", and the two of C-11.
 ghost use mathlib.Core.Path.{_≡_};
-ghost use Rattle.registers.specs.Commands.{commandOf};
-ghost use Rattle.registers.specs.Refusals.{illegal};
+ghost use Rattle.commands.specs.Commands.{commandOf, illegal};
 use bits::flags::BROADCASTS;
 use queues::queues::Way;
 
@@ -48,7 +47,7 @@ const LEGAL: [Legal; 22] = [
 ];
 
 // The command of a byte, found in the table.
-pub(crate) fn decode(byte: u8) -> Command
+pub fn decode(byte: u8) -> Command
     ensures { λ r. ⌜ r ≡ commandOf byte ⌝ }
 {
     let mut i = 0;
@@ -64,7 +63,7 @@ pub(crate) fn decode(byte: u8) -> Command
 }
 
 impl Command {
-    pub(crate) fn illegal(self, chaining: bool) -> bool
+    pub fn illegal(self, chaining: bool) -> bool
         ensures { λ r. ⌜ r ≡ illegal chaining self ⌝ }
     {
         match self {

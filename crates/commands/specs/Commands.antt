@@ -1,12 +1,13 @@
 -- Document 01, "Registers": the twenty command bytes, the two of C-11, and what each is by its bits.
 -- Assumes nothing.
+use mathlib.Core.Bool.{Bool, true, false, not}
 use mathlib.Core.List.{List, [], _∷_}
 use Prim.Native.Nat.{ℕ, _+_, _*_, _/_, _%_}
 use lib.Bits.{bitAnd}
 use lib.Dec.{eqb}
 use Rattle.queues.specs.declared.queues.Way.the-variants.{Transmit, Receive}
-use Rattle.registers.specs.declared.commands.Command.{Command}
-use Rattle.registers.specs.declared.commands.Command.the-variants.{Illegal, Disable, Enable, LongPackets, ClearFlags, Clear}
+use Rattle.commands.specs.declared.commands.Command.{Command}
+use Rattle.commands.specs.declared.commands.Command.the-variants.{Illegal, Disable, Enable, LongPackets, ClearFlags, Clear}
 use Rattle.bits.specs.Words.{pick, has, raiseIf}
 use Rattle.bits.specs.Flags.{BROADCASTS}
 
@@ -36,3 +37,12 @@ commandOf c =
     (pick (eqb (bitAnd c 0xf7) 0x05) (LongPackets (c / 8 % 2))
     (pick (eqb (bitAnd c 0xe7) 0x06) (ClearFlags (has 0x08 c) (has 0x10 c))
     Illegal)))))))
+
+-- C-11: "VALUE no longer meets .. commands 00 and 08 in a chaining row"
+abbrev pub illegal : Bool → Command → Bool
+illegal chaining Illegal = true
+illegal chaining (Disable w) = false
+illegal chaining (Enable w entry) = false
+illegal chaining (LongPackets l) = false
+illegal chaining (ClearFlags p r) = false
+illegal chaining (Clear w) = not chaining

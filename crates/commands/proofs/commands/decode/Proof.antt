@@ -1,4 +1,4 @@
--- `registers::commands::decode` meets its contract. The invariant: no byte of the table that was passed is the byte asked for.
+-- `commands::commands::decode` meets its contract. The invariant: no byte of the table that was passed is the byte asked for.
 -- Assumes nothing.
 use mathlib.Core.Path.{_≡_, sym, _∙_, ap}
 use Prim.Native.Nat.{ℕ, _≤_, _<_, _-_}
@@ -6,11 +6,11 @@ use borrow.Author.Count.{below-none, below-more}
 use borrow.Author.Needs.{needs}
 use native.Mathlib.Omega.{arith}
 use lib.ListN.{getD}
-use Rattle.registers.specs.declared.commands.Legal.{Legal}
-use Rattle.registers.specs.Commands.{commandOf}
-use Rattle.registers.proofs.Values.Legal.{commandBytes, unlisted, legal-at}
-use Rattle.registers.proofs.commands.decode.Statement.{statement}
-use Rattle.registers.proofs.commands.decode.Tie as tie
+use Rattle.commands.specs.declared.commands.Legal.{Legal}
+use Rattle.commands.specs.Commands.{commandOf}
+use Rattle.commands.proofs.Legal.{commandBytes, unlisted, legal-at}
+use Rattle.commands.proofs.commands.decode.Statement.{statement}
+use Rattle.commands.proofs.commands.decode.Tie as tie
 
 abbrev Inv-loop : tie.InvT-loop
 Inv-loop byte i₀ i = (i ≤ 22) × ((j : ℕ) → j < i → getD commandBytes j 0 ≡ byte → ⊥)

@@ -7,12 +7,11 @@ use Prim.Native.Nat.{ℕ, suc, _<_}
 use native.Mathlib.Omega.{arith}
 use borrow.Author.Tests.{ne-eqb}
 use lib.ListN.{length, getD}
-use Rattle.registers.specs.declared.commands.Command.{Command}
-use Rattle.registers.specs.declared.commands.Command.the-variants.{Illegal, Disable, Enable, LongPackets, ClearFlags, Clear}
-use Rattle.registers.specs.declared.commands.Legal.{Legal}
+use Rattle.commands.specs.declared.commands.Command.{Command}
+use Rattle.commands.specs.declared.commands.Command.the-variants.{Illegal, Disable, Enable, LongPackets, ClearFlags, Clear}
+use Rattle.commands.specs.declared.commands.Legal.{Legal}
 use Rattle.bits.specs.Words.{among}
-use Rattle.registers.specs.Commands.{commandOf, legalBytes, chainBytes}
-use Rattle.registers.specs.Refusals.{illegal}
+use Rattle.commands.specs.Commands.{commandOf, legalBytes, chainBytes, illegal}
 use Rattle.bits.proofs.Words.Table.{tab, entry, by-table}
 
 is-illegal : (k : Command) → illegal true k ≡ true → k ≡ Illegal
