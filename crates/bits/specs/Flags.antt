@@ -2,6 +2,8 @@
 -- Assumes nothing.
 use mathlib.Core.Bool.{Bool}
 use Prim.Native.Nat.{ℕ, _+_, _-_, _^_}
+use Rattle.bits.specs.declared.way.Way.{Way}
+use Rattle.bits.specs.declared.way.Way.the-variants.{Transmit, Receive}
 use Rattle.bits.specs.Words.{clear}
 
 -- "Status: RI 7, POR 4, TEST 3 (always 0), RECON 2, TMA 1, TA 0"
@@ -106,3 +108,8 @@ transmitBits = CANCEL + LOW2
 
 abbrev pub receiveBits : ℕ
 receiveBits = CANCEL + BROADCASTS + LOW2
+
+-- of the oldest that waits on a side, byte 13 or 14
+abbrev pub oldestBits : Way → ℕ
+oldestBits Transmit = transmitBits
+oldestBits Receive = receiveBits

@@ -6,12 +6,12 @@ use Prim.Native.Nat.{ℕ, _-_, _<_}
 use native.Mathlib.Omega.{arith}
 use lib.Bits.{bitAnd}
 use lib.Dec.{eqb}
-use Rattle.queues.specs.declared.queues.Way.the-variants.{Transmit, Receive}
+use Rattle.bits.specs.declared.way.Way.the-variants.{Transmit, Receive}
 use Rattle.commands.specs.declared.commands.Command.{Command}
 use Rattle.commands.specs.declared.commands.Command.the-variants.{Illegal, Disable, Enable, LongPackets, ClearFlags, Clear}
 use Rattle.bits.specs.Words.{has, raiseIf}
 use Rattle.bits.specs.Flags.{BROADCASTS, only, transmitBits, receiveBits}
-use Rattle.queues.specs.Queues.{oldestBits}
+use Rattle.bits.specs.Flags.{oldestBits}
 use Rattle.commands.specs.Commands.{pageOf, commandOf}
 use Rattle.bits.proofs.Words.Bools.{pick-of}
 use Rattle.bits.proofs.Words.Table.{low2}

@@ -2,7 +2,7 @@
 ghost use mathlib.Core.Path.{_≡_};
 ghost use Rattle.commands.specs.Commands.{commandOf, illegal};
 use bits::flags::BROADCASTS;
-use queues::queues::Way;
+use bits::way::Way;
 
 // What a byte written to register 1 asks of the card. Pages are 0 to 3.
 pub enum Command {

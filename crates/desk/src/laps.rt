@@ -9,9 +9,9 @@ ghost use Rattle.desk.specs.Lap.{online, nodes, invitation, passed, invi
 use crate::numbers::ALONE;
 use line::step::Answer;
 use line::step::step_on;
-use registers::numbers::BUSY;
-use registers::numbers::DONE;
-use registers::numbers::refuse;
+use numbers::numbers::BUSY;
+use numbers::numbers::DONE;
+use numbers::numbers::refuse;
 use table::network::LOST;
 use table::network::ROWS;
 use table::network::phase;

@@ -11,7 +11,7 @@ use crate::orders::flags_at;
 use crate::orders::id_at;
 use crate::orders::order_fits;
 use crate::orders::records;
-use registers::numbers::DONE;
+use numbers::numbers::DONE;
 use table::calls::fresh;
 use table::calls::write_on;
 

@@ -1,6 +1,7 @@
 pub mod Once
 pub mod LapReads
 pub mod OfBits
+pub mod OfNumbers
 pub mod OfQueues
 pub mod OfCommands
 pub mod OfRegisters

@@ -1,11 +1,9 @@
 -- "No second outcome fits", over the contracts of `registers`.
 -- Assumes nothing.
-use Rattle.registers.proofs.numbers as numbers
 use Rattle.registers.proofs.regs.Regs as regs
 use Rattle.promises.specs.Once.{Once}
 
 pub record OfRegisters : Type 0 where
-  pub refuse : Once numbers.refuse.ended numbers.refuse.Reads.Asked numbers.refuse.Reads.Learnt
   pub on-line : Once regs.on_line.ended regs.on_line.Reads.Asked regs.on_line.Reads.Learnt
   pub fit : Once regs.fit.ended regs.fit.Reads.Asked regs.fit.Reads.Learnt
   pub hardware-reset : Once regs.hardware_reset.ended regs.hardware_reset.Reads.Asked regs.hardware_reset.Reads.Learnt

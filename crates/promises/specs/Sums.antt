@@ -8,7 +8,7 @@ use lib.ListN.{take}
 use Rattle.registers.specs.declared.regs.Regs.{Regs}
 use Rattle.card.specs.declared.packets.Shape.the-variants.{Malformed}
 use Rattle.commands.specs.declared.commands.Command.the-variants.{Enable}
-use Rattle.queues.specs.declared.queues.Way.the-variants.{Transmit, Receive}
+use Rattle.bits.specs.declared.way.Way.the-variants.{Transmit, Receive}
 use Rattle.bits.specs.Words.{has}
 use Rattle.bits.specs.Flags.{AUTO-INC, RESET, CCHEN}
 use Rattle.commands.specs.Commands.{commandOf}

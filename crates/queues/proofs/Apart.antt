@@ -4,8 +4,8 @@ use mathlib.Core.Path.{_≡_, refl, _∙_}
 use mathlib.Core.Bool.{Bool, _&&_}
 use Prim.Native.Nat.{ℕ, _+_, _-_}
 use lib.Bits.{bitAnd}
-use Rattle.queues.specs.declared.queues.Way.{Way}
-use Rattle.queues.specs.declared.queues.Way.the-variants.{Transmit, Receive}
+use Rattle.bits.specs.declared.way.Way.{Way}
+use Rattle.bits.specs.declared.way.Way.the-variants.{Transmit, Receive}
 use Rattle.queues.specs.declared.queues.Side.{Side}
 use Rattle.queues.specs.Queues.{freeFlag, waiting, two, uncleared, KEPT, shows, completed, cleared, lowered, enabled, disabled, gone, ended, secondCancelled, cancelled}
 use Rattle.bits.specs.Words.{clear, has, raise, lower}

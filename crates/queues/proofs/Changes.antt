@@ -6,10 +6,11 @@ use mathlib.Core.Logic.{⊎-elim}
 use Prim.Native.Nat.{ℕ, _+_, _-_}
 use borrow.Author.Tests.{eqb-true}
 use lib.Dec.{eqb}
-use Rattle.queues.specs.declared.queues.Way.{Way}
-use Rattle.queues.specs.declared.queues.Way.the-variants.{Transmit, Receive}
+use Rattle.bits.specs.declared.way.Way.{Way}
+use Rattle.bits.specs.declared.way.Way.the-variants.{Transmit, Receive}
 use Rattle.queues.specs.declared.queues.Side.{Side}
-use Rattle.queues.specs.Queues.{with-status, with-oldest, with-done, freeFlag, waiting, secondFlag, two, full, uncleared, KEPT, shows, completed, cleared, lowered, enabled, disabled, ended, secondCancelled, cancelled, counted, oldestBits, secondBits, sound}
+use Rattle.queues.specs.Queues.{with-status, with-oldest, with-done, freeFlag, waiting, secondFlag, two, full, uncleared, KEPT, shows, completed, cleared, lowered, enabled, disabled, ended, secondCancelled, cancelled, counted, secondBits, sound}
+use Rattle.bits.specs.Flags.{oldestBits}
 use Rattle.bits.specs.Words.{pick, clear, has, raise, lower}
 use Rattle.bits.specs.Flags.{TMA, TA, RI, CANCEL, LOW2, only}
 use Rattle.bits.proofs.Words.Bools.{and-left, and-right, cases, and-false, or-true, or-first, or-between, pick-of}

@@ -5,10 +5,11 @@ use mathlib.Core.Bool.{Bool, true, false, not, _&&_, _||_}
 use Prim.Native.Nat.{ℕ}
 use borrow.Author.Tests.{eqb-true}
 use lib.Dec.{eqb, lit<}
-use Rattle.queues.specs.declared.queues.Way.{Way}
-use Rattle.queues.specs.declared.queues.Way.the-variants.{Transmit, Receive}
+use Rattle.bits.specs.declared.way.Way.{Way}
+use Rattle.bits.specs.declared.way.Way.the-variants.{Transmit, Receive}
 use Rattle.queues.specs.declared.queues.Side.{Side}
-use Rattle.queues.specs.Queues.{with-status, none, freeFlag, waiting, two, counted, oldestBits, secondBits, sound, rules, fit}
+use Rattle.queues.specs.Queues.{with-status, none, freeFlag, waiting, two, counted, secondBits, sound, rules, fit}
+use Rattle.bits.specs.Flags.{oldestBits}
 use Rattle.bits.specs.Words.{clear, has}
 use Rattle.bits.specs.Flags.{TMA, TA, RI, only}
 use Rattle.bits.proofs.Words.Bools.{holds, or-true, or-first}

@@ -5,10 +5,11 @@ use mathlib.Core.Bool.{Bool, true, false, not, _&&_, _||_}
 use Prim.Native.Nat.{ℕ, _-_, _<_}
 use lib.Bits.{bitAnd}
 use lib.Dec.{eqb, lit<}
-use Rattle.queues.specs.declared.queues.Way.{Way}
-use Rattle.queues.specs.declared.queues.Way.the-variants.{Transmit, Receive}
+use Rattle.bits.specs.declared.way.Way.{Way}
+use Rattle.bits.specs.declared.way.Way.the-variants.{Transmit, Receive}
 use Rattle.queues.specs.declared.queues.Side.{Side}
-use Rattle.queues.specs.Queues.{with-status, with-oldest, with-second, with-done, freeFlag, waiting, secondFlag, two, uncleared, KEPT, stored, shows, completed, gone, secondCancelled, counted, oldestBits, secondBits, sound}
+use Rattle.queues.specs.Queues.{with-status, with-oldest, with-second, with-done, freeFlag, waiting, secondFlag, two, uncleared, KEPT, stored, shows, completed, gone, secondCancelled, counted, secondBits, sound}
+use Rattle.bits.specs.Flags.{oldestBits}
 use Rattle.bits.specs.Words.{clear, has, raise, raiseIf, setTo}
 use Rattle.bits.specs.Flags.{TMA, TA, CANCEL, LOW2}
 use Rattle.bits.proofs.Words.Bools.{and-left, and-right, or-true, or-first, or-between, pick-of}

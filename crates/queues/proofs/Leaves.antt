@@ -5,8 +5,8 @@ use mathlib.Core.Bool.{Bool, true, false, not, _&&_, _||_}
 use Prim.Native.Nat.{ℕ, _-_}
 use lib.Dec.{eqb, lit<}
 use borrow.Author.Tests.{eqb-true}
-use Rattle.queues.specs.declared.queues.Way.{Way}
-use Rattle.queues.specs.declared.queues.Way.the-variants.{Transmit, Receive}
+use Rattle.bits.specs.declared.way.Way.{Way}
+use Rattle.bits.specs.declared.way.Way.the-variants.{Transmit, Receive}
 use Rattle.queues.specs.declared.queues.Side.{Side}
 use Rattle.queues.specs.Queues.{freeFlag, waiting, secondFlag, two, uncleared, stored, completed, movedUp, gone, ended, secondCancelled, cancelled}
 use Rattle.bits.specs.Words.{pick, clear, has, raise, lower, setTo}

@@ -4,11 +4,12 @@ use mathlib.Core.Path.{_≡_, refl, sym, _∙_, ap}
 use mathlib.Core.Bool.{Bool, true, false, not, _||_}
 use Prim.Native.Nat.{ℕ}
 use lib.Dec.{eqb}
-use Rattle.queues.specs.declared.queues.Way.{Way}
-use Rattle.queues.specs.declared.queues.Way.the-variants.{Transmit, Receive}
+use Rattle.bits.specs.declared.way.Way.{Way}
+use Rattle.bits.specs.declared.way.Way.the-variants.{Transmit, Receive}
 use Rattle.queues.specs.declared.queues.Queue.{Queue}
 use Rattle.queues.specs.declared.queues.Side.{Side}
-use Rattle.queues.specs.Queues.{with-status, with-oldest, with-second, none, freeFlag, waiting, two, shows, cleared, lowered, enabled, disabled, gone, ended, secondCancelled, cancelled, oldestBits, sound, fit}
+use Rattle.queues.specs.Queues.{with-status, with-oldest, with-second, none, freeFlag, waiting, two, shows, cleared, lowered, enabled, disabled, gone, ended, secondCancelled, cancelled, sound, fit}
+use Rattle.bits.specs.Flags.{oldestBits}
 use Rattle.bits.specs.Words.{pick, clear, has, raise, lower}
 use Rattle.bits.specs.Flags.{CANCEL, only}
 use Rattle.bits.proofs.Words.Bools.{or-true, pick-of}

@@ -4,12 +4,12 @@ use mathlib.Core.Bool.{Bool, true, not, _&&_, _||_}
 use mathlib.Core.List.{List, [], _∷_}
 use Prim.Native.Nat.{ℕ, _+_, _^_}
 use lib.Dec.{eqb}
-use Rattle.queues.specs.declared.queues.Way.{Way}
-use Rattle.queues.specs.declared.queues.Way.the-variants.{Transmit, Receive}
+use Rattle.bits.specs.declared.way.Way.{Way}
+use Rattle.bits.specs.declared.way.Way.the-variants.{Transmit, Receive}
 use Rattle.queues.specs.declared.queues.Queue.{Queue}
 use Rattle.queues.specs.declared.queues.Side.{Side}
 use Rattle.bits.specs.Words.{pick, all, clear, has, raise, raiseIf, lower, setTo}
-use Rattle.bits.specs.Flags.{RI, TMA, TA, CANCEL, LOW2, only, transmitBits, receiveBits}
+use Rattle.bits.specs.Flags.{RI, TMA, TA, CANCEL, LOW2, only, oldestBits}
 
 -- a side with one of its bytes set to another value: status; 13 or 14, the oldest; 16 or 17, the second; 18 or 19, the ends not cleared
 abbrev pub with-status : ℕ → Side → Side
@@ -115,10 +115,6 @@ unfoldable pub cancelled : Way → Side → Side
 cancelled w s = pick (clear CANCEL (s .queue .oldest)) (secondCancelled s) (gone w (secondCancelled s))
 
 -- ---- "well-formedness gains their rules"
-abbrev pub oldestBits : Way → ℕ
-oldestBits Transmit = transmitBits
-oldestBits Receive = receiveBits
-
 abbrev pub secondBits : Way → ℕ
 secondBits w = raise (secondFlag w) (oldestBits w)
 

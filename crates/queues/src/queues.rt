@@ -7,14 +7,10 @@ use bits::flags::LOW2;
 use bits::flags::RI;
 use bits::flags::TA;
 use bits::flags::TMA;
+use bits::way::Way;
 
 // The TMA of an end that is stored behind the one shown.
 pub(crate) const KEPT: u8 = 1 << 7;
-
-pub enum Way {
-    Transmit,
-    Receive,
-}
 
 // Bytes 13, 16 and 18 of a row, or 14, 17 and 19: the oldest that waits, the second, and how many ends are not cleared.
 pub struct Queue {
@@ -29,45 +25,43 @@ pub struct Side {
     pub queue: Queue,
 }
 
-impl Way {
-    // The flag that is 0 while one waits.
-    fn free_flag(self) -> u8
-        ensures { λ r. ⌜ r ≡ freeFlag self ⌝ }
-    {
-        match self {
-            Way::Transmit => TA,
-            Way::Receive => RI,
-        }
+// The flag that is 0 while one waits.
+fn free_flag(way: Way) -> u8
+    ensures { λ r. ⌜ r ≡ freeFlag way ⌝ }
+{
+    match way {
+        Way::Transmit => TA,
+        Way::Receive => RI,
     }
+}
 
-    // The bit of the second's byte that says that it waits.
-    pub(crate) fn second_flag(self) -> u8
-        ensures { λ r. ⌜ r ≡ secondFlag self ⌝ }
-    {
-        match self {
-            Way::Transmit => 1 << 6,
-            Way::Receive => 1 << 5,
-        }
+// The bit of the second's byte that says that it waits.
+pub(crate) fn second_flag(way: Way) -> u8
+    ensures { λ r. ⌜ r ≡ secondFlag way ⌝ }
+{
+    match way {
+        Way::Transmit => 1 << 6,
+        Way::Receive => 1 << 5,
     }
+}
 
-    // What is stored of an end behind the one shown.
-    fn stored(self, acknowledged: bool) -> u8
-        ensures { λ r. ⌜ r ≡ stored self acknowledged ⌝ }
-    {
-        match self {
-            Way::Transmit => choose(acknowledged, KEPT | 2, 2),
-            Way::Receive => 2,
-        }
+// What is stored of an end behind the one shown.
+fn stored(way: Way, acknowledged: bool) -> u8
+    ensures { λ r. ⌜ r ≡ stored way acknowledged ⌝ }
+{
+    match way {
+        Way::Transmit => choose(acknowledged, KEPT | 2, 2),
+        Way::Receive => 2,
     }
+}
 
-    // The status with what an end shows in it.
-    fn shows(self, acknowledged: bool, status: u8) -> u8
-        ensures { λ r. ⌜ r ≡ shows self acknowledged status ⌝ }
-    {
-        match self {
-            Way::Transmit => choose(acknowledged, status | TMA, status & !TMA),
-            Way::Receive => status,
-        }
+// The status with what an end shows in it.
+fn shows(way: Way, acknowledged: bool, status: u8) -> u8
+    ensures { λ r. ⌜ r ≡ shows way acknowledged status ⌝ }
+{
+    match way {
+        Way::Transmit => choose(acknowledged, status | TMA, status & !TMA),
+        Way::Receive => status,
     }
 }
 
@@ -87,7 +81,7 @@ impl Queue {
     pub fn two(self, way: Way) -> bool
         ensures { λ r. ⌜ r ≡ two way self ⌝ }
     {
-        self.second & way.second_flag() != 0
+        self.second & second_flag(way) != 0
     }
 
     // TTA, or TRI: an end is not cleared yet.
@@ -113,7 +107,7 @@ impl Side {
     pub(crate) fn waiting(self, way: Way) -> bool
         ensures { λ r. ⌜ r ≡ waiting way self ⌝ }
     {
-        self.status & way.free_flag() == 0
+        self.status & free_flag(way) == 0
     }
 
     // BUSY: no more can wait.
@@ -132,7 +126,7 @@ impl Side {
     {
         let mut s = self;
         if chaining & self.waiting(way) {
-            let second = entry | way.second_flag();
+            let second = entry | second_flag(way);
             s.queue.second = second;
             return s;
         }
@@ -165,12 +159,12 @@ impl Side {
     {
         let mut s = self;
         if self.queue.two(way) {
-            let up = self.queue.second & !way.second_flag();
+            let up = self.queue.second & !second_flag(way);
             s.queue.oldest = up;
             s.queue.second = 0;
             return s;
         }
-        s.status = self.status | way.free_flag();
+        s.status = self.status | free_flag(way);
         s.queue.oldest = 0;
         s
     }
@@ -181,11 +175,11 @@ impl Side {
     {
         let mut s = self;
         if chaining & self.queue.uncleared() {
-            let kept = way.stored(acknowledged);
+            let kept = stored(way, acknowledged);
             s.queue.done = kept;
             return s;
         }
-        s.status = way.shows(acknowledged, self.status);
+        s.status = shows(way, acknowledged, self.status);
         let done = choose(chaining, 1, self.queue.done);
         s.queue.done = done;
         s
@@ -226,7 +220,7 @@ impl Side {
         if !self.queue.uncleared() {
             return s;
         }
-        s.status = way.shows(self.queue.done & KEPT != 0, self.status);
+        s.status = shows(way, self.queue.done & KEPT != 0, self.status);
         let left = choose(self.queue.done & 2 != 0, 1, 0);
         s.queue.done = left;
         s

@@ -1,34 +1,34 @@
 // C-11, "well-formedness gains their rules": the bytes of a side agree with each other.
 ghost use mathlib.Core.Path.{_≡_};
-ghost use Rattle.queues.specs.Queues.{oldestBits, counted, sound, fit};
+ghost use Rattle.queues.specs.Queues.{counted, sound, fit};
+ghost use Rattle.bits.specs.Flags.{oldestBits};
 use crate::queues::KEPT;
 use crate::queues::Side;
-use crate::queues::Way;
+use crate::queues::second_flag;
 use bits::flags::BROADCASTS;
 use bits::flags::CANCEL;
 use bits::flags::LOW2;
 use bits::flags::TA;
 use bits::flags::TMA;
+use bits::way::Way;
 
-impl Way {
-    // The bits that have a name.
-    fn oldest_bits(self) -> u8
-        ensures { λ r. ⌜ r ≡ oldestBits self ⌝ }
-    {
-        match self {
-            Way::Transmit => CANCEL | LOW2,
-            Way::Receive => CANCEL | BROADCASTS | LOW2,
-        }
+// The bits that have a name.
+fn oldest_bits(way: Way) -> u8
+    ensures { λ r. ⌜ r ≡ oldestBits way ⌝ }
+{
+    match way {
+        Way::Transmit => CANCEL | LOW2,
+        Way::Receive => CANCEL | BROADCASTS | LOW2,
     }
+}
 
-    // At most two ends are not cleared; TMA is stored of the second alone.
-    fn counted(self, done: u8) -> bool
-        ensures { λ r. ⌜ r ≡ counted self done ⌝ }
-    {
-        match self {
-            Way::Transmit => (done == 0) | (done == 1) | (done == 2) | (done == KEPT | 2),
-            Way::Receive => (done == 0) | (done == 1) | (done == 2),
-        }
+// At most two ends are not cleared; TMA is stored of the second alone.
+fn counted(way: Way, done: u8) -> bool
+    ensures { λ r. ⌜ r ≡ counted way done ⌝ }
+{
+    match way {
+        Way::Transmit => (done == 0) | (done == 1) | (done == 2) | (done == KEPT | 2),
+        Way::Receive => (done == 0) | (done == 1) | (done == 2),
     }
 }
 
@@ -49,12 +49,12 @@ impl Side {
         ensures { λ r. ⌜ r ≡ fit way chaining long self ⌝ }
     {
         let q = self.queue;
-        let bits = way.oldest_bits();
+        let bits = oldest_bits(way);
         let waiting = self.waiting(way);
         let short = long != 1;
         (q.oldest & !bits == 0)
-            & (q.second & !(bits | way.second_flag()) == 0)
-            & way.counted(q.done)
+            & (q.second & !(bits | second_flag(way)) == 0)
+            & counted(way, q.done)
             & (waiting | (q.oldest == 0))
             & ((q.second == 0) | waiting & q.two(way))
             & (short | !waiting | (q.oldest & 1 == 0))

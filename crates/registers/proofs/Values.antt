@@ -12,5 +12,6 @@ pub mod Chained
 pub mod Ends
 pub mod Listens
 pub mod Loads
+pub mod Rising
 pub mod Sums
 pub mod Plains

@@ -3,7 +3,7 @@
 use mathlib.Core.Bool.{Bool, false, not, _&&_}
 use Prim.Native.Nat.{ℕ, _+_, _%_}
 use lib.Dec.{eqb}
-use Rattle.queues.specs.declared.queues.Way.the-variants.{Transmit, Receive}
+use Rattle.bits.specs.declared.way.Way.the-variants.{Transmit, Receive}
 use Rattle.registers.specs.declared.regs.Regs.{Regs}
 use Rattle.bits.specs.Words.{pick, clear, has, raise, raiseIf}
 use Rattle.bits.specs.Flags.{RI, RECON, TA, MYRECON, DUPID, RCVACT, TOKEN, TENTID, BROADCASTS}

@@ -3,7 +3,7 @@
 use mathlib.Core.Bool.{Bool, not, _&&_}
 use mathlib.Core.List.{List, [], _∷_}
 use lib.Dec.{eqb}
-use Rattle.queues.specs.declared.queues.Way.the-variants.{Transmit, Receive}
+use Rattle.bits.specs.declared.way.Way.the-variants.{Transmit, Receive}
 use Rattle.registers.specs.declared.regs.Regs.{Regs}
 use Rattle.bits.specs.Words.{all, clear, has}
 use Rattle.bits.specs.Flags.{RESET, TXEN, LOW2, only, statusBits, diagnosticBits, maskBits, setupBits, modeBits}

@@ -1,8 +1,8 @@
 -- C-11, "Buyers of the newer cards set CCHEN": a chaining row, and the two sides of a card, each with its queue.
 -- Assumes nothing.
 use mathlib.Core.Bool.{Bool}
-use Rattle.queues.specs.declared.queues.Way.{Way}
-use Rattle.queues.specs.declared.queues.Way.the-variants.{Transmit, Receive}
+use Rattle.bits.specs.declared.way.Way.{Way}
+use Rattle.bits.specs.declared.way.Way.the-variants.{Transmit, Receive}
 use Rattle.queues.specs.declared.queues.Side.{Side}
 use Rattle.registers.specs.declared.regs.Regs.{Regs}
 use Rattle.bits.specs.Words.{has}

@@ -12,7 +12,7 @@ use bits::flags::RI;
 use bits::flags::TA;
 use bits::flags::TENTID;
 use bits::flags::TOKEN;
-use queues::queues::Way;
+use bits::way::Way;
 
 impl Regs {
     // A reconfiguration burst of this card's own.

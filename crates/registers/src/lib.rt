@@ -2,7 +2,6 @@
 // does to them, and what an access is refused with.
 pub mod access;
 pub mod events;
-pub mod numbers;
 pub mod refusals;
 pub mod regs;
 pub mod sides;

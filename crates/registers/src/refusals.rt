@@ -1,16 +1,7 @@
 // Document 01, "Numbers a caller may get": what a register access to one card is refused with.
 ghost use mathlib.Core.Path.{_≡_};
-ghost use Rattle.registers.specs.Numbers.{told};
+ghost use Rattle.numbers.specs.Numbers.{told};
 ghost use Rattle.registers.specs.Refusals.{noRegister, badValue, busy, chainBusy, oddPage, readRefusals, writeRefusals};
-use crate::numbers::BUSY;
-use crate::numbers::DIRECTION;
-use crate::numbers::DONE;
-use crate::numbers::NOTREADY;
-use crate::numbers::ONLINE;
-use crate::numbers::PAGE;
-use crate::numbers::REGISTER;
-use crate::numbers::VALUE;
-use crate::numbers::refuse;
 use crate::regs::Regs;
 use bits::flags::MASK;
 use bits::flags::MODE;
@@ -18,6 +9,15 @@ use bits::flags::RDDATA;
 use bits::flags::SETUP;
 use commands::commands::Command;
 use commands::commands::decode;
+use numbers::numbers::BUSY;
+use numbers::numbers::DIRECTION;
+use numbers::numbers::DONE;
+use numbers::numbers::NOTREADY;
+use numbers::numbers::ONLINE;
+use numbers::numbers::PAGE;
+use numbers::numbers::REGISTER;
+use numbers::numbers::VALUE;
+use numbers::numbers::refuse;
 
 impl Regs {
     // REGISTER: no such register, or none at this sub-address.

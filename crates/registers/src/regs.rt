@@ -16,8 +16,8 @@ use bits::flags::SETUP;
 use bits::flags::STATUS;
 use bits::flags::TA;
 use bits::flags::TXEN;
+use bits::way::Way;
 use queues::queues::Queue;
-use queues::queues::Way;
 
 // "status 91 hex", after a reset of either kind.
 pub(crate) const AFTER_RESET: u8 = RI | POR | TA;

@@ -4,8 +4,8 @@ ghost use Rattle.queues.specs.Queues as queues;
 ghost use Rattle.registers.specs.Sides.{chaining, sideOf, withSide};
 use crate::regs::Regs;
 use bits::flags::CCHEN;
+use bits::way::Way;
 use queues::queues::Side;
-use queues::queues::Way;
 
 impl Regs {
     // CCHEN is set.

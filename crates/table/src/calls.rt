@@ -27,10 +27,10 @@ use crate::numbers::ROOM;
 use crate::numbers::ROW;
 use crate::numbers::SHAPE;
 use card::row::ROW_BYTES;
-use registers::numbers::DONE;
-use registers::numbers::NOTREADY;
-use registers::numbers::VALUE;
-use registers::numbers::refuse;
+use numbers::numbers::DONE;
+use numbers::numbers::NOTREADY;
+use numbers::numbers::VALUE;
+use numbers::numbers::refuse;
 
 // What a read gives: the refusal's number, DONE for none, and the value, 0 beside a refusal.
 pub struct Reading {

@@ -6,7 +6,6 @@ use Rattle.promises.proofs.Once.Same.{told}
 
 pub registers-once : OfRegisters
 registers-once = record {
-  refuse = (λ _ _. tt, λ _ _ _ _ _ _. told refl);
   on-line = (λ _ _. tt, λ _ _ _ _ _ _. told refl);
   fit = (λ _ _. tt, λ _ _ _ _ _ _. told refl);
   hardware-reset = (λ _ _. tt, λ _ _ _ _ _ _. told refl);

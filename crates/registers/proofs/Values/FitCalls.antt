@@ -7,7 +7,7 @@ use native.Mathlib.Omega.{arith}
 use borrow.Author.Tests.{eq-eqb, eqb-true, eqb-false, not-false}
 use lib.Bits.{bitAnd}
 use lib.Dec.{eqb, ltb}
-use Rattle.queues.specs.declared.queues.Way.the-variants.{Transmit, Receive}
+use Rattle.bits.specs.declared.way.Way.the-variants.{Transmit, Receive}
 use Rattle.queues.specs.declared.queues.Side.{Side}
 use Rattle.registers.specs.declared.regs.Regs.{Regs}
 use Rattle.bits.specs.Words.{clear, has}
@@ -17,11 +17,11 @@ use Rattle.registers.specs.Sides.{chaining, sideOf}
 use Rattle.registers.specs.Fit.{fit}
 use Rattle.commands.specs.Commands.{commandOf, illegal}
 use Rattle.registers.specs.Registers.{sub, risen, stepped, afterRead, hardwareReset, changesChaining, configured, seventhWritten, afterWrite}
-use Rattle.registers.specs.Numbers.{REGISTER, VALUE, BUSY, PAGE, refuses}
+use Rattle.numbers.specs.Numbers.{REGISTER, VALUE, BUSY, PAGE, refuses}
 use Rattle.registers.specs.Refusals.{noRegister, badValue, busy, chainBusy, writeRefusals, writeNumber}
 use Rattle.bits.proofs.Words.Bools.{or-left, or-right, or-four, pick-of}
 use Rattle.queues.proofs.Fits.{Fits, fits-none}
-use Rattle.registers.proofs.Told.Smallest.{none-refuses}
+use Rattle.numbers.proofs.Told.Smallest.{none-refuses}
 use Rattle.bits.proofs.Words.Table.{low2}
 use Rattle.registers.proofs.Values.Fits.{Fit, rules-fit}
 use Rattle.registers.proofs.Values.FitBytes as keeps

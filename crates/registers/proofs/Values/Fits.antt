@@ -3,8 +3,8 @@
 use mathlib.Core.Path.{_≡_}
 use mathlib.Core.Bool.{true, _&&_}
 use lib.Dec.{eqb, lit<}
-use Rattle.queues.specs.declared.queues.Way.{Way}
-use Rattle.queues.specs.declared.queues.Way.the-variants.{Transmit, Receive}
+use Rattle.bits.specs.declared.way.Way.{Way}
+use Rattle.bits.specs.declared.way.Way.the-variants.{Transmit, Receive}
 use Rattle.registers.specs.declared.regs.Regs.{Regs}
 use Rattle.bits.specs.Words.{all}
 use Rattle.bits.specs.Flags.{LOW2, only, statusBits, diagnosticBits, maskBits, setupBits, modeBits}

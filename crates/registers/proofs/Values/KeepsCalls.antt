@@ -5,7 +5,7 @@ use mathlib.Core.Bool.{true}
 use mathlib.Core.List.{List, [], _∷_}
 use Prim.Native.Nat.{ℕ}
 use lib.Dec.{eqb}
-use Rattle.queues.specs.declared.queues.Way.the-variants.{Transmit, Receive}
+use Rattle.bits.specs.declared.way.Way.the-variants.{Transmit, Receive}
 use Rattle.registers.specs.declared.regs.Regs.{Regs}
 use Rattle.commands.specs.declared.commands.Command.{Command}
 use Rattle.commands.specs.declared.commands.Command.the-variants.{Illegal, Disable, Enable, LongPackets, ClearFlags, Clear}

@@ -3,7 +3,7 @@
 use mathlib.Core.Path.{_≡_, refl, _∙_}
 use mathlib.Core.Bool.{Bool, true, false, _&&_}
 use Prim.Native.Nat.{ℕ}
-use Rattle.queues.specs.declared.queues.Way.the-variants.{Receive}
+use Rattle.bits.specs.declared.way.Way.the-variants.{Receive}
 use Rattle.registers.specs.declared.regs.Regs.{Regs}
 use Rattle.bits.specs.Words.{clear, has}
 use Rattle.bits.specs.Flags.{RI, RECON, BROADCASTS}

@@ -6,7 +6,7 @@ use Prim.Native.Nat.{ℕ}
 use lib.Dec.{eqb}
 use Rattle.registers.specs.declared.regs.Regs.{Regs}
 use Rattle.bits.specs.Words.{pick}
-use Rattle.registers.specs.Numbers.{refuse}
+use Rattle.numbers.proofs.Told.Smallest.{refuse-passed}
 use Rattle.registers.specs.Fit.{awake, onLine}
 use Rattle.commands.proofs.Carried.{command-0D, command-84}
 use Rattle.registers.specs.Registers.{hardwareReset, configured, commanded, writesId, seventhWritten, afterWrite}
@@ -43,8 +43,8 @@ pub record Loads (i : ℕ) (long receive : Bool) : Type 0 where
   pub id : joined i long receive .id ≡ i
 
 pub loads : (i : ℕ) → eqb i 0 ≡ false → (long receive : Bool) → Loads i long receive
-unfolding hardwareReset afterWrite configured seventhWritten commanded writesId noRegister badValue writeRefusals refuse awake onLine
-loads i n true true = search (n, command-0D, command-84)
-loads i n true false = search (n, command-0D, command-84)
-loads i n false true = search (n, command-0D, command-84)
-loads i n false false = search (n, command-0D, command-84)
+unfolding hardwareReset afterWrite configured seventhWritten commanded writesId noRegister badValue writeRefusals awake onLine
+loads i n true true = search (n, command-0D, command-84, refuse-passed)
+loads i n true false = search (n, command-0D, command-84, refuse-passed)
+loads i n false true = search (n, command-0D, command-84, refuse-passed)
+loads i n false false = search (n, command-0D, command-84, refuse-passed)

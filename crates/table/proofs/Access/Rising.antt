@@ -3,10 +3,10 @@
 use mathlib.Core.Path.{refl, _≡_}
 use mathlib.Core.List.{List, [], _∷_, _++_}
 use Prim.Native.Nat.{ℕ}
-use Rattle.registers.specs.Numbers.{Smallest, _when_, Refusal, risesFrom, rises}
+use Rattle.numbers.specs.Numbers.{Smallest, _when_, Refusal, risesFrom, rises}
 use Rattle.registers.specs.Refusals.{writeRefusals}
-use Rattle.registers.proofs.Told.Smallest.{smallest}
-use Rattle.registers.proofs.Told.Rising.{rises-append, read-rises, write-rises, write-last}
+use Rattle.numbers.proofs.Told.Smallest.{smallest}
+use Rattle.registers.proofs.Values.Rising.{rises-append, read-rises, write-rises, write-last}
 use Rattle.card.proofs.Pages.Refused.{data-rises}
 use Rattle.table.specs.Numbers.{DUPLICATE, ROW}
 use Rattle.table.specs.Network.{rowAt, regsAt}

@@ -1,7 +1,7 @@
--- `queues::queues::Way::counted` meets its contract. Assumes nothing.
+-- `queues::rules::counted` meets its contract. Assumes nothing.
 use borrow.Author.Needs.{needs}
-use Rattle.queues.proofs.queues.Way.counted.Statement.{statement}
-use Rattle.queues.proofs.queues.Way.counted.Tie as tie
+use Rattle.queues.proofs.rules.counted.Statement.{statement}
+use Rattle.queues.proofs.rules.counted.Tie as tie
 
 returns : tie.Need-returns
 returns c = simp (c .enum-told .given .1)

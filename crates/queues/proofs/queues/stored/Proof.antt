@@ -1,7 +1,7 @@
--- `queues::queues::Way::stored` meets its contract. Assumes nothing.
+-- `queues::queues::stored` meets its contract. Assumes nothing.
 use borrow.Author.Needs.{needs}
-use Rattle.queues.proofs.queues.Way.stored.Statement.{statement}
-use Rattle.queues.proofs.queues.Way.stored.Tie as tie
+use Rattle.queues.proofs.queues.stored.Statement.{statement}
+use Rattle.queues.proofs.queues.stored.Tie as tie
 
 returns : tie.Need-returns
 returns c = simp (c .choose .ensures, c .before .enum-told .given .1)

@@ -1,6 +1,6 @@
 // Document 01, "Numbers a caller may get": the card's own numbers, and how a call's refusals make the one that is told.
 ghost use mathlib.Core.Path.{_≡_};
-ghost use Rattle.registers.specs.Numbers.{refuse};
+ghost use Rattle.numbers.specs.Numbers.{refuse};
 use bits::choice::choose;
 
 pub const DONE: u8 = 0;
@@ -11,13 +11,13 @@ pub const VALUE: u8 = 4;
 
 pub const NOTREADY: u8 = 5;
 
-pub(crate) const DIRECTION: u8 = 6;
+pub const DIRECTION: u8 = 6;
 
 pub const BUSY: u8 = 7;
 
-pub(crate) const ONLINE: u8 = 8;
+pub const ONLINE: u8 = 8;
 
-pub(crate) const PAGE: u8 = 9;
+pub const PAGE: u8 = 9;
 
 // A refusal after those that gave n: an earlier number stands, else this one is told where its test holds.
 pub fn refuse(n: u8, number: u8, test: bool) -> u8

@@ -1,7 +1,7 @@
--- `queues::queues::Way::shows` meets its contract. Assumes nothing.
+-- `queues::queues::shows` meets its contract. Assumes nothing.
 use borrow.Author.Needs.{needs}
-use Rattle.queues.proofs.queues.Way.shows.Statement.{statement}
-use Rattle.queues.proofs.queues.Way.shows.Tie as tie
+use Rattle.queues.proofs.queues.shows.Statement.{statement}
+use Rattle.queues.proofs.queues.shows.Tie as tie
 
 returns : tie.Need-returns
 returns c = simp (c .choose .ensures, c .before .enum-told .given .1)

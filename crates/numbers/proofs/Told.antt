@@ -1,0 +1,2 @@
+-- Refusals: the number that is told of a list.
+pub mod Smallest
