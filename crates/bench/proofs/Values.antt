@@ -6,7 +6,7 @@ use mathlib.Core.List.{List}
 use Prim.Native.Nat.{ℕ, _≤_, _<_}
 use borrow.Author.Tests.{le-leb, lt-leb}
 use Rattle.registers.specs.declared.regs.Regs.{Regs}
-use Rattle.numbers.specs.Numbers.{DONE, REGISTER, VALUE, refuse}
+use Rattle.told.specs.Numbers.{DONE, REGISTER, VALUE, refuse}
 use Rattle.registers.specs.Refusals.{noRegister}
 use Rattle.table.specs.Network.{regsAt}
 use Rattle.table.specs.Calls.{placeNumber, netWriteNumber, netAfterWrite}

@@ -6,7 +6,7 @@ use Prim.Native.Nat.{ℕ, _+_}
 use lib.Dec.{leb}
 use lib.ListN.{length, take, drop}
 use Rattle.bits.specs.Words.{pick}
-use Rattle.numbers.specs.Numbers.{REGISTER, VALUE, Refusal, _when_, told}
+use Rattle.told.specs.Numbers.{REGISTER, VALUE, Refusal, _when_, told}
 use Rattle.registers.specs.Refusals.{noRegister}
 use Rattle.table.specs.Numbers.{SHAPE}
 use Rattle.table.specs.Network.{regsAt, shape}

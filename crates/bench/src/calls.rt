@@ -10,10 +10,6 @@ ghost use Rattle.prompt.specs.Input.{LINE};
 ghost use Rattle.bench.specs.Calls.{shapeNumber, inside, poked, wideNumber, valueNumber, netAfterValue};
 use desk::laps::Taker;
 use desk::laps::Walked;
-use numbers::numbers::DONE;
-use numbers::numbers::REGISTER;
-use numbers::numbers::VALUE;
-use numbers::numbers::refuse;
 use print::gather::ROOM;
 use print::gather::end;
 use print::gather::number;
@@ -24,6 +20,10 @@ use table::network::ROWS;
 use table::network::regs_at;
 use table::network::shape;
 use table::numbers::SHAPE;
+use told::numbers::DONE;
+use told::numbers::REGISTER;
+use told::numbers::VALUE;
+use told::numbers::refuse;
 
 // SHAPE alone: 0 where the network is well formed.
 pub(crate) fn shape_number(net: &[u8]) -> u8

@@ -10,7 +10,7 @@ use Rattle.card.specs.declared.packets.Shape.{Shape}
 use Rattle.card.specs.declared.packets.Shape.the-variants.{Malformed, Short, Long}
 use Rattle.card.specs.declared.packets.Packet.{Packet}
 use Rattle.bits.specs.Words.{pick, clear}
-use Rattle.numbers.specs.Numbers.{VALUE, Refusal, _when_, told}
+use Rattle.told.specs.Numbers.{VALUE, Refusal, _when_, told}
 use Rattle.card.specs.Row.{registerBytes, regsOf}
 use Rattle.registers.specs.declared.regs.Regs.{Regs}
 

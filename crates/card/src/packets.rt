@@ -7,10 +7,10 @@ ghost use Rattle.card.specs.Row.{rowBytes};
 ghost use Rattle.card.specs.Packets.{shapeOf, dataBytes, dataAt, headBytes, pageBytes, pageAt, malformed, pageShape, destination, dataNumber, dataFrom, pageData, packetAt, laid, stored, stamped, storable};
 use crate::row::REGISTER_BYTES;
 use crate::row::load;
-use numbers::numbers::DONE;
-use numbers::numbers::VALUE;
-use numbers::numbers::refuse;
 use registers::regs::Regs;
+use told::numbers::DONE;
+use told::numbers::VALUE;
+use told::numbers::refuse;
 
 // What a page holds, and the COUNT byte of a packet: the page offset at which its data start.
 pub enum Shape {

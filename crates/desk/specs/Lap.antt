@@ -7,7 +7,7 @@ use Prim.Native.Nat.{ℕ, zero, suc, _+_, _*_, _≤_}
 use lib.Dec.{eqb, ltb}
 use lib.ListN.{length, take, drop, replicate}
 use Rattle.bits.specs.Words.{pick}
-use Rattle.numbers.specs.Numbers.{BUSY, Refusal, _when_, told}
+use Rattle.told.specs.Numbers.{BUSY, Refusal, _when_, told}
 use Rattle.line.specs.declared.step.Answer.{Answer}
 use Rattle.line.specs.declared.step.Answer.the-variants.{Refused, Quiet, Recovered, Passed, Unanswered, TokenLost, Held}
 use Rattle.table.specs.Numbers.{SHAPE, ROOM}

@@ -6,7 +6,7 @@ use Prim.Native.Nat.{ℕ, zero, suc}
 use lib.Dec.{eqb}
 use lib.ListN.{length}
 use Rattle.bits.specs.Words.{pick, has}
-use Rattle.numbers.specs.Numbers.{Refusal, _when_, told}
+use Rattle.told.specs.Numbers.{Refusal, _when_, told}
 use Rattle.table.specs.Numbers.{ROOM}
 use Rattle.table.specs.Network.{rowStart}
 use Rattle.table.specs.Calls.{netAfterWrite, netAfterFresh}

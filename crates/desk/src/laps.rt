@@ -9,9 +9,6 @@ ghost use Rattle.desk.specs.Lap.{online, nodes, invitation, passed, invi
 use crate::numbers::ALONE;
 use line::step::Answer;
 use line::step::step_on;
-use numbers::numbers::BUSY;
-use numbers::numbers::DONE;
-use numbers::numbers::refuse;
 use table::network::LOST;
 use table::network::ROWS;
 use table::network::phase;
@@ -20,6 +17,9 @@ use table::network::rows;
 use table::network::shape;
 use table::numbers::ROOM;
 use table::numbers::SHAPE;
+use told::numbers::BUSY;
+use told::numbers::DONE;
+use told::numbers::refuse;
 
 // A row that took the token: its node ID, its number from 0, and the invitations since the holder before.
 pub struct Taker {

@@ -11,9 +11,9 @@ use crate::orders::flags_at;
 use crate::orders::id_at;
 use crate::orders::order_fits;
 use crate::orders::records;
-use numbers::numbers::DONE;
 use table::calls::fresh;
 use table::calls::write_on;
+use told::numbers::DONE;
 
 // The registers that are written.
 const COMMAND: usize = 1;

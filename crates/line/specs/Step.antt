@@ -9,7 +9,7 @@ use Rattle.line.specs.declared.traffic.Outcome.{Outcome}
 use Rattle.line.specs.declared.step.Answer.{Answer}
 use Rattle.line.specs.declared.step.Answer.the-variants.{Refused, Quiet, Recovered, Passed, Unanswered, TokenLost, Held}
 use Rattle.bits.specs.Words.{pick}
-use Rattle.numbers.specs.Numbers.{VALUE, Refusal, _when_, told}
+use Rattle.told.specs.Numbers.{VALUE, Refusal, _when_, told}
 use Rattle.registers.specs.Events.{risenNid}
 use Rattle.table.specs.Numbers.{SHAPE}
 use Rattle.line.specs.Numbers.{HOLDER}

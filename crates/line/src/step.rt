@@ -9,9 +9,6 @@ use crate::passes::Event;
 use crate::passes::happen;
 use crate::traffic::Outcome;
 use crate::traffic::taken;
-use numbers::numbers::DONE;
-use numbers::numbers::VALUE;
-use numbers::numbers::refuse;
 use table::network::LOST;
 use table::network::PASS;
 use table::network::TAKEN;
@@ -26,6 +23,9 @@ use table::network::top_id;
 use table::network::turn;
 use table::network::wide;
 use table::numbers::SHAPE;
+use told::numbers::DONE;
+use told::numbers::VALUE;
+use told::numbers::refuse;
 
 // What a step answers. A row is given by its number, from 0; `Unanswered` names the ID that was invited.
 pub enum Answer {

@@ -2,7 +2,7 @@
 pub mod Same
 pub mod Sixty
 pub mod Bits
-pub mod Numbers
+pub mod Told
 pub mod Queues
 pub mod Commands
 pub mod Registers

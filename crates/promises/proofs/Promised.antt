@@ -19,7 +19,7 @@ use Rattle.desk.proofs.Loads.Loaded.{load-refused}
 use Rattle.desk.proofs.Lapping.LapLeaves.{walk-refused, lap-refused}
 use Rattle.promises.specs.Promises.{RefusalsChangeNothing, NoOtherByte, OutcomesSay, PlainRows, IdleFaults, Sizes, OneOutcome}
 use Rattle.promises.proofs.Once.Bits.{bits-once}
-use Rattle.promises.proofs.Once.Numbers.{numbers-once}
+use Rattle.promises.proofs.Once.Told.{told-once}
 use Rattle.promises.proofs.Once.Queues.{queues-once}
 use Rattle.promises.proofs.Once.Commands.{commands-once}
 use Rattle.promises.proofs.Once.Registers.{registers-once}
@@ -68,4 +68,4 @@ pub sizes : Sizes
 sizes = data-sizes
 
 pub one-outcome : OneOutcome
-one-outcome = record { bits = bits-once; numbers = numbers-once; queues = queues-once; commands = commands-once; registers = registers-once; card = card-once; table = table-once; line = line-once; desk = desk-once; words = words-once }
+one-outcome = record { bits = bits-once; told = told-once; queues = queues-once; commands = commands-once; registers = registers-once; card = card-once; table = table-once; line = line-once; desk = desk-once; words = words-once }

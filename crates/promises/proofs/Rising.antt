@@ -1,7 +1,7 @@
 -- "The smallest number wins, but loading tests ORDER before ROOM": the list of each call rises, but for loading's.
 -- Assumes nothing.
 use mathlib.Core.Path.{refl}
-use Rattle.numbers.proofs.Told.Smallest.{smallest}
+use Rattle.told.proofs.Told.Smallest.{smallest}
 use Rattle.table.proofs.Access.Rising.{place-smallest, read-smallest, write-smallest, timer-smallest, interrupt-smallest, data-smallest, fresh-smallest}
 use Rattle.line.proofs.Steps.Refused.{step-smallest}
 use Rattle.desk.specs.Load.{roomRefusals}

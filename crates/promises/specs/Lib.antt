@@ -1,7 +1,7 @@
 pub mod Once
 pub mod LapReads
 pub mod OfBits
-pub mod OfNumbers
+pub mod OfTold
 pub mod OfQueues
 pub mod OfCommands
 pub mod OfRegisters

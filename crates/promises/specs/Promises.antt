@@ -9,7 +9,7 @@ use Rattle.bits.specs.Words.{among}
 use Rattle.registers.specs.Layout.{at-diagnostic, readChanges}
 use Rattle.registers.specs.Sides.{chaining}
 use Rattle.registers.specs.Plain.{Plain}
-use Rattle.numbers.specs.Numbers.{Smallest}
+use Rattle.told.specs.Numbers.{Smallest}
 use Rattle.card.specs.Packets.{shapeOf, dataBytes, CanBeSent, malformed}
 use Rattle.card.specs.Moves.{OnlyAt}
 use Rattle.line.specs.declared.traffic.Outcome.{Outcome}
@@ -25,7 +25,7 @@ use Rattle.desk.specs.Load.{roomRefusals, loadNumber, netAfterLoad}
 use Rattle.desk.specs.Lap.{nodes, after, answers, takers, lapSteps, lapRefusals, lapNumber, lapped, netAfterLap, lapTakers, listAfterLap}
 use Rattle.desk.specs.Demand.{Call, table, steps, answersOf, Throughout, LapOf, FirstLapOf}
 use Rattle.promises.specs.OfBits.{OfBits}
-use Rattle.promises.specs.OfNumbers.{OfNumbers}
+use Rattle.promises.specs.OfTold.{OfTold}
 use Rattle.promises.specs.OfQueues.{OfQueues}
 use Rattle.promises.specs.OfCommands.{OfCommands}
 use Rattle.promises.specs.OfRegisters.{OfRegisters}
@@ -123,7 +123,7 @@ Sizes = (count next : ℕ) (long : Bool) → count < 256 → next < 256 → malf
 -- and `laps::lap` (LapReads)
 pub record OneOutcome : Type 0 where
   pub bits : OfBits
-  pub numbers : OfNumbers
+  pub told : OfTold
   pub queues : OfQueues
   pub commands : OfCommands
   pub registers : OfRegisters

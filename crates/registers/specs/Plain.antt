@@ -11,7 +11,7 @@ use Rattle.commands.specs.declared.commands.Command.{Command}
 use Rattle.commands.specs.declared.commands.Command.the-variants.{Illegal, Disable, Enable, LongPackets, ClearFlags, Clear}
 use Rattle.bits.specs.Words.{pick, all, among, clear, has, raise, lower}
 use Rattle.bits.specs.Flags.{RI, POR, RECON, TMA, TA, RESET, CCHEN, RDDATA, CANCEL, BROADCASTS, only, maskBits, setupBits, modeBits, transmitBits, receiveBits}
-use Rattle.numbers.specs.Numbers.{REGISTER, VALUE, NOTREADY, DIRECTION, BUSY, ONLINE, PAGE, Refusal, _when_}
+use Rattle.told.specs.Numbers.{REGISTER, VALUE, NOTREADY, DIRECTION, BUSY, ONLINE, PAGE, Refusal, _when_}
 use Rattle.registers.specs.Fields.{with-status, with-diagnostic, with-mask, with-configuration, with-transmit, with-receive, with-long}
 use Rattle.registers.specs.Sides.{chaining}
 use Rattle.registers.specs.Fit.{awake, onLine, named, fit}

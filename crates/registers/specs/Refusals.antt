@@ -9,7 +9,7 @@ use Rattle.commands.specs.declared.commands.Command.{Command}
 use Rattle.commands.specs.declared.commands.Command.the-variants.{Illegal, Disable, Enable, LongPackets, ClearFlags, Clear}
 use Rattle.bits.specs.Words.{clear, has}
 use Rattle.bits.specs.Flags.{RI, TA, RDDATA, only, maskBits, setupBits, modeBits}
-use Rattle.numbers.specs.Numbers.{REGISTER, VALUE, NOTREADY, DIRECTION, BUSY, ONLINE, PAGE, Refusal, _when_, told}
+use Rattle.told.specs.Numbers.{REGISTER, VALUE, NOTREADY, DIRECTION, BUSY, ONLINE, PAGE, Refusal, _when_, told}
 use Rattle.registers.specs.Fit.{awake, onLine}
 use Rattle.commands.specs.Commands.{commandOf, illegal}
 use Rattle.queues.specs.Queues.{full}

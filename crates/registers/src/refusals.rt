@@ -1,6 +1,6 @@
 // Document 01, "Numbers a caller may get": what a register access to one card is refused with.
 ghost use mathlib.Core.Path.{_≡_};
-ghost use Rattle.numbers.specs.Numbers.{told};
+ghost use Rattle.told.specs.Numbers.{told};
 ghost use Rattle.registers.specs.Refusals.{noRegister, badValue, busy, chainBusy, oddPage, readRefusals, writeRefusals};
 use crate::regs::Regs;
 use bits::flags::MASK;
@@ -9,15 +9,15 @@ use bits::flags::RDDATA;
 use bits::flags::SETUP;
 use commands::commands::Command;
 use commands::commands::decode;
-use numbers::numbers::BUSY;
-use numbers::numbers::DIRECTION;
-use numbers::numbers::DONE;
-use numbers::numbers::NOTREADY;
-use numbers::numbers::ONLINE;
-use numbers::numbers::PAGE;
-use numbers::numbers::REGISTER;
-use numbers::numbers::VALUE;
-use numbers::numbers::refuse;
+use told::numbers::BUSY;
+use told::numbers::DIRECTION;
+use told::numbers::DONE;
+use told::numbers::NOTREADY;
+use told::numbers::ONLINE;
+use told::numbers::PAGE;
+use told::numbers::REGISTER;
+use told::numbers::VALUE;
+use told::numbers::refuse;
 
 impl Regs {
     // REGISTER: no such register, or none at this sub-address.

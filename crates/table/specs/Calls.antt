@@ -8,7 +8,7 @@ use lib.ListN.{length, replicate}
 use Rattle.table.specs.declared.calls.Reading.{Reading}
 use Rattle.table.specs.declared.calls.Interrupting.{Interrupting}
 use Rattle.bits.specs.Words.{pick, among}
-use Rattle.numbers.specs.Numbers.{VALUE, NOTREADY, Refusal, _when_, told}
+use Rattle.told.specs.Numbers.{VALUE, NOTREADY, Refusal, _when_, told}
 use Rattle.registers.specs.Fit.{onLine}
 use Rattle.registers.specs.Registers.{interrupt, afterWrite}
 use Rattle.registers.specs.Layout.{at-diagnostic, resetBytes}

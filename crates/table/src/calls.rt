@@ -27,10 +27,10 @@ use crate::numbers::ROOM;
 use crate::numbers::ROW;
 use crate::numbers::SHAPE;
 use card::row::ROW_BYTES;
-use numbers::numbers::DONE;
-use numbers::numbers::NOTREADY;
-use numbers::numbers::VALUE;
-use numbers::numbers::refuse;
+use told::numbers::DONE;
+use told::numbers::NOTREADY;
+use told::numbers::VALUE;
+use told::numbers::refuse;
 
 // What a read gives: the refusal's number, DONE for none, and the value, 0 beside a refusal.
 pub struct Reading {

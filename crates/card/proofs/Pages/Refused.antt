@@ -10,10 +10,10 @@ use lib.Dec.{ltb}
 use lib.ListN.{take}
 use Rattle.card.specs.declared.packets.Shape.{Shape}
 use Rattle.card.specs.declared.packets.Shape.the-variants.{Malformed, Short, Long}
-use Rattle.numbers.specs.Numbers.{DONE, VALUE, risesFrom}
+use Rattle.told.specs.Numbers.{DONE, VALUE, risesFrom}
 use Rattle.card.specs.Packets.{malformed, dataBytes, pageShape, dataRefusals, dataNumber, pageData}
 use Rattle.bits.proofs.Words.Bools.{cases}
-use Rattle.numbers.proofs.Told.Smallest.{refuse-held, refuse-passed}
+use Rattle.told.proofs.Told.Smallest.{refuse-held, refuse-passed}
 
 no-data : (s : Shape) (l : List ℕ) → malformed s ≡ true → take (dataBytes s) l ≡ []
 no-data Malformed l e = refl

@@ -13,9 +13,9 @@ use Rattle.card.specs.declared.packets.Shape.{Shape}
 use Rattle.card.specs.declared.packets.Shape.the-variants.{Malformed, Short, Long}
 use Rattle.card.specs.declared.packets.Packet.{Packet}
 use Rattle.bits.specs.Words.{pick, clear}
-use Rattle.numbers.specs.Numbers.{DONE, VALUE}
+use Rattle.told.specs.Numbers.{DONE, VALUE}
 use Rattle.bits.proofs.Words.Bools.{and-right, pick-of}
-use Rattle.numbers.proofs.Told.Smallest.{refuse-passed}
+use Rattle.told.proofs.Told.Smallest.{refuse-passed}
 use Rattle.card.specs.Row.{registerBytes, rowBytes, regsOf}
 use Rattle.card.specs.Packets.{shapeOf, dataBytes, dataAt, pageBytes, pageAt, malformed, pageShape, destination, dataRefusals, pageData, packetAt, dataOf, stored, stamped}
 use Rattle.card.specs.Moves.{Holds}

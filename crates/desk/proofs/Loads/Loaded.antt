@@ -12,8 +12,8 @@ use lib.ListN.{length}
 use borrow.Author.Tests.{ne-eqb, ltb-true, ltb-false}
 use Rattle.card.specs.Row.{regsOf}
 use Rattle.registers.specs.Registers.{hardwareReset}
-use Rattle.numbers.specs.Numbers.{DONE, told}
-use Rattle.numbers.proofs.Told.Smallest.{refuse-held, refuse-passed, refuse-stays}
+use Rattle.told.specs.Numbers.{DONE, told}
+use Rattle.told.proofs.Told.Smallest.{refuse-held, refuse-passed, refuse-stays}
 use Rattle.table.specs.Numbers.{ROOM}
 use Rattle.card.specs.Access.{freshRow}
 use Rattle.bits.proofs.Words.Bools.{cases}

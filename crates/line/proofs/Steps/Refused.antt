@@ -4,8 +4,8 @@ use mathlib.Core.Path.{_≡_, refl, _∙_}
 use mathlib.Core.List.{List}
 use Prim.Native.Nat.{ℕ}
 use borrow.Author.Tests.{ne-eqb}
-use Rattle.numbers.specs.Numbers.{Smallest}
-use Rattle.numbers.proofs.Told.Smallest.{smallest}
+use Rattle.told.specs.Numbers.{Smallest}
+use Rattle.told.proofs.Told.Smallest.{smallest}
 use Rattle.line.specs.Step.{stepRefusals, stepNumber, step, answerNumber, answerValue}
 use Rattle.line.proofs.Steps.Stepped.{answer-number}
 

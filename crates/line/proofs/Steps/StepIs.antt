@@ -10,8 +10,8 @@ use borrow.Author.Tests.{eqb-false, eq-eqb, ne-eqb, ltb-true, lt-ltb, le-ltb}
 use Rattle.line.specs.declared.passes.Event.the-variants.{Recovery, Message, Taken}
 use Rattle.line.specs.declared.step.Answer.{Answer}
 use Rattle.line.specs.declared.step.Answer.the-variants.{Recovered, Passed, Unanswered}
-use Rattle.numbers.specs.Numbers.{DONE, VALUE}
-use Rattle.numbers.proofs.Told.Smallest.{refuse-passed}
+use Rattle.told.specs.Numbers.{DONE, VALUE}
+use Rattle.told.proofs.Told.Smallest.{refuse-passed}
 use Rattle.table.specs.Numbers.{SHAPE}
 use Rattle.line.specs.Numbers.{HOLDER}
 use Rattle.registers.specs.Events.{risenNid}

@@ -12,9 +12,9 @@ use Rattle.registers.specs.declared.regs.Regs.{Regs}
 use Rattle.line.specs.declared.step.Answer.{Answer}
 use Rattle.line.specs.declared.step.Answer.the-variants.{Refused}
 use Rattle.registers.specs.Fit.{onLine}
-use Rattle.numbers.specs.Numbers.{DONE, VALUE, refuse}
+use Rattle.told.specs.Numbers.{DONE, VALUE, refuse}
 use Rattle.bits.proofs.Words.Bools.{cases, pick-of}
-use Rattle.numbers.proofs.Told.Smallest.{refuse-held, refuse-passed, refuse-stays, none-refuses}
+use Rattle.told.proofs.Told.Smallest.{refuse-held, refuse-passed, refuse-stays, none-refuses}
 use Rattle.table.specs.Numbers.{SHAPE}
 use Rattle.line.specs.Numbers.{HOLDER}
 use Rattle.table.specs.Network.{rows, phase, holder, LOST, PASS, regsAt, onLineAt, topId, shape}

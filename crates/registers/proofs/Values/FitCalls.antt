@@ -17,11 +17,11 @@ use Rattle.registers.specs.Sides.{chaining, sideOf}
 use Rattle.registers.specs.Fit.{fit}
 use Rattle.commands.specs.Commands.{commandOf, illegal}
 use Rattle.registers.specs.Registers.{sub, risen, stepped, afterRead, hardwareReset, changesChaining, configured, seventhWritten, afterWrite}
-use Rattle.numbers.specs.Numbers.{REGISTER, VALUE, BUSY, PAGE, refuses}
+use Rattle.told.specs.Numbers.{REGISTER, VALUE, BUSY, PAGE, refuses}
 use Rattle.registers.specs.Refusals.{noRegister, badValue, busy, chainBusy, writeRefusals, writeNumber}
 use Rattle.bits.proofs.Words.Bools.{or-left, or-right, or-four, pick-of}
 use Rattle.queues.proofs.Fits.{Fits, fits-none}
-use Rattle.numbers.proofs.Told.Smallest.{none-refuses}
+use Rattle.told.proofs.Told.Smallest.{none-refuses}
 use Rattle.bits.proofs.Words.Table.{low2}
 use Rattle.registers.proofs.Values.Fits.{Fit, rules-fit}
 use Rattle.registers.proofs.Values.FitBytes as keeps

@@ -6,7 +6,7 @@ use Prim.Native.Nat.{ℕ}
 use lib.Dec.{eqb}
 use Rattle.registers.specs.declared.regs.Regs.{Regs}
 use Rattle.bits.specs.Words.{pick}
-use Rattle.numbers.proofs.Told.Smallest.{refuse-passed}
+use Rattle.told.proofs.Told.Smallest.{refuse-passed}
 use Rattle.registers.specs.Fit.{awake, onLine}
 use Rattle.commands.proofs.Carried.{command-0D, command-84}
 use Rattle.registers.specs.Registers.{hardwareReset, configured, commanded, writesId, seventhWritten, afterWrite}

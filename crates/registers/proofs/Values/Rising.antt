@@ -6,7 +6,7 @@ use mathlib.Core.List.{List, [], _∷_, _++_}
 use Prim.Native.Nat.{ℕ}
 use lib.Dec.{ltb}
 use Rattle.registers.specs.declared.regs.Regs.{Regs}
-use Rattle.numbers.specs.Numbers.{PAGE, Refusal, _when_, risesFrom}
+use Rattle.told.specs.Numbers.{PAGE, Refusal, _when_, risesFrom}
 use Rattle.registers.specs.Refusals.{readRefusals, writeRefusals}
 use Rattle.bits.proofs.Words.Bools.{and-left, and-right}
 

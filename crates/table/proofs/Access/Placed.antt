@@ -10,7 +10,7 @@ use lib.ListN.{length}
 use borrow.Author.Tests.{eq-eqb, ne-eqb, leb-false, lt-leb, not-false}
 use borrow.Rule.Slice.PartMut.{midOf, putMid}
 use Rattle.registers.specs.declared.regs.Regs.{Regs}
-use Rattle.numbers.specs.Numbers.{DONE, Refusal, refuse, told, refuses}
+use Rattle.told.specs.Numbers.{DONE, Refusal, refuse, told, refuses}
 use Rattle.card.specs.Row.{rowBytes, putRegs}
 use Rattle.registers.specs.Registers.{interrupt}
 use Rattle.card.specs.Access.{valueRead, rowAfterRead}
@@ -18,7 +18,7 @@ use Rattle.places.specs.Places.{onward}
 use Rattle.places.proofs.Places.{onward-onward}
 use Rattle.card.specs.Packets.{dataRefusals, dataNumber, dataFrom, pageData}
 use Rattle.registers.specs.Events.{burst}
-use Rattle.numbers.proofs.Told.Smallest.{refuse-held, refuse-passed, refuse-stays, told-first, told-second, told-both, none-refuses}
+use Rattle.told.proofs.Told.Smallest.{refuse-held, refuse-passed, refuse-stays, told-first, told-second, told-both, none-refuses}
 use Rattle.table.specs.declared.calls.Reading.{Reading}
 use Rattle.table.specs.declared.calls.Interrupting.{Interrupting}
 use Rattle.table.specs.Numbers.{SHAPE, ROW}

@@ -3,9 +3,9 @@
 use mathlib.Core.Path.{refl, _≡_}
 use mathlib.Core.List.{List, [], _∷_, _++_}
 use Prim.Native.Nat.{ℕ}
-use Rattle.numbers.specs.Numbers.{Smallest, _when_, Refusal, risesFrom, rises}
+use Rattle.told.specs.Numbers.{Smallest, _when_, Refusal, risesFrom, rises}
 use Rattle.registers.specs.Refusals.{writeRefusals}
-use Rattle.numbers.proofs.Told.Smallest.{smallest}
+use Rattle.told.proofs.Told.Smallest.{smallest}
 use Rattle.registers.proofs.Values.Rising.{rises-append, read-rises, write-rises, write-last}
 use Rattle.card.proofs.Pages.Refused.{data-rises}
 use Rattle.table.specs.Numbers.{DUPLICATE, ROW}

@@ -7,13 +7,13 @@ use Prim.Native.Nat.{ℕ, _≤_, _<_}
 use native.Mathlib.Omega.{arith}
 use lib.Dec.{eqb, ltb, lit<}
 use borrow.Author.Tests.{eqb-true, ltb-false}
-use Rattle.numbers.specs.Numbers.{_when_}
+use Rattle.told.specs.Numbers.{_when_}
 use Rattle.registers.specs.Fit.{onLine}
 use Rattle.registers.specs.Registers.{afterWrite, hardwareReset}
 use Rattle.card.specs.Access.{rowAfterRead, rowAfterWrite, rowAfterReset}
 use Rattle.registers.specs.Refusals.{writeRefusals, writeNumber}
 use Rattle.bits.proofs.Words.Bools.{pick-of}
-use Rattle.numbers.proofs.Told.Smallest.{told-both, none-refuses}
+use Rattle.told.proofs.Told.Smallest.{told-both, none-refuses}
 use Rattle.card.proofs.Rows.Bytes.{length-put}
 use Rattle.card.proofs.Rows.WellFormed.{length-read, length-write, well-reset, well-write, well-fresh}
 use Rattle.card.proofs.Rows.WellFormed.{fresh-off}

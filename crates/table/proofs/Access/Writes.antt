@@ -10,7 +10,7 @@ use lib.Dec.{eqb}
 use lib.ListN.{length}
 use borrow.Author.Tests.{eqb-false, le-ltb}
 use Rattle.registers.specs.declared.regs.Regs.{Regs}
-use Rattle.numbers.proofs.Told.Smallest.{refuse-passed}
+use Rattle.told.proofs.Told.Smallest.{refuse-passed}
 use Rattle.card.specs.Row.{rowBytes, regsOf}
 use Rattle.registers.specs.Fit.{onLine}
 use Rattle.registers.specs.Registers.{afterWrite}

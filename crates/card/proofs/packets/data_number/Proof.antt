@@ -2,8 +2,8 @@
 use borrow.Author.Needs.{needs}
 use borrow.Author.Tests.{lt-ltb, le-ltb}
 use mathlib.Core.Path.{sym}
-use Rattle.numbers.specs.Numbers.{VALUE}
-use Rattle.numbers.proofs.Told.Smallest.{refuse-held}
+use Rattle.told.specs.Numbers.{VALUE}
+use Rattle.told.proofs.Told.Smallest.{refuse-held}
 use Rattle.card.specs.Packets.{dataRefusals}
 use Rattle.card.proofs.packets.data_number.Statement.{statement}
 use Rattle.card.proofs.packets.data_number.Tie as tie

@@ -9,7 +9,7 @@ use native.Mathlib.Omega.{arith}
 use borrow.Author.Tests.{eq-eqb, ne-eqb, eqb-true, eqb-false, ltb-true}
 use lib.Dec.{eqb, ltb}
 use Rattle.bits.specs.Words.{pick}
-use Rattle.numbers.specs.Numbers.{DONE, Refusal, _when_, refuse, toldAfter, told, risesFrom, rises, refuses, Smallest}
+use Rattle.told.specs.Numbers.{DONE, Refusal, _when_, refuse, toldAfter, told, risesFrom, rises, refuses, Smallest}
 use Rattle.bits.proofs.Words.Bools.{and-false, cases, and-left, and-right}
 
 -- ---- one refusal: it is told, it does not hold, or a number told before it stands
