@@ -6,9 +6,8 @@ use mathlib.Core.List.{List}
 use Prim.Native.Nat.{ℕ}
 use lib.ListN.{length}
 use borrow.Author.Tests.{not-false}
-use Rattle.told.specs.Numbers.{DONE, refuse, Smallest}
+use Rattle.told.specs.Numbers.{DONE, SHAPE, refuse, Smallest}
 use Rattle.told.proofs.Told.Smallest.{none-refuses, smallest}
-use Rattle.table.specs.Numbers.{SHAPE}
 use Rattle.table.specs.Network.{rowStart, rows, shape}
 use Rattle.table.proofs.Shaped.Shapes.{shape-length}
 use Rattle.bench.specs.Calls.{shapeRefusals, shapeNumber, wideRefusals, wideNumber}

@@ -6,9 +6,8 @@ use Prim.Native.Nat.{ℕ, _+_}
 use lib.Dec.{leb}
 use lib.ListN.{length, take, drop}
 use Rattle.bits.specs.Words.{pick}
-use Rattle.told.specs.Numbers.{REGISTER, VALUE, Refusal, _when_, told}
+use Rattle.told.specs.Numbers.{SHAPE, REGISTER, VALUE, Refusal, _when_, told}
 use Rattle.registers.specs.Refusals.{noRegister}
-use Rattle.table.specs.Numbers.{SHAPE}
 use Rattle.table.specs.Network.{regsAt, shape}
 use Rattle.table.specs.Calls.{placeRefusals, netWriteNumber, netAfterWrite}
 

@@ -19,9 +19,9 @@ use prompt::answers::tell;
 use table::network::ROWS;
 use table::network::regs_at;
 use table::network::shape;
-use table::numbers::SHAPE;
 use told::numbers::DONE;
 use told::numbers::REGISTER;
+use told::numbers::SHAPE;
 use told::numbers::VALUE;
 use told::numbers::refuse;
 

@@ -7,16 +7,14 @@ use Prim.Native.Nat.{ℕ, zero, suc, _+_, _*_, _≤_}
 use lib.Dec.{eqb, ltb}
 use lib.ListN.{length, take, drop, replicate}
 use Rattle.bits.specs.Words.{pick}
-use Rattle.told.specs.Numbers.{BUSY, Refusal, _when_, told}
+use Rattle.told.specs.Numbers.{SHAPE, BUSY, ALONE, ROOM, Refusal, _when_, told}
 use Rattle.line.specs.declared.step.Answer.{Answer}
 use Rattle.line.specs.declared.step.Answer.the-variants.{Refused, Quiet, Recovered, Passed, Unanswered, TokenLost, Held}
-use Rattle.table.specs.Numbers.{SHAPE, ROOM}
 use Rattle.table.specs.Folds.{seek}
 use Rattle.table.specs.Network.{rowLimit, rows, phase, holder, LOST, regsAt, onLineAt, shape}
 use Rattle.line.specs.Step.{step, answerValue}
 use Rattle.desk.specs.declared.laps.Taker.{Taker}
 use Rattle.desk.specs.declared.laps.Lapped.{Lapped}
-use Rattle.desk.specs.Numbers.{ALONE}
 
 -- "Here n counts the nodes on line": of the first k rows
 unfoldable pub online : List ℕ → ℕ → ℕ

@@ -1,4 +1,3 @@
-pub mod Numbers
 pub mod Order
 pub mod Load
 pub mod Lap

@@ -6,11 +6,9 @@ use Prim.Native.Nat.{ℕ, zero, suc}
 use lib.Dec.{eqb}
 use lib.ListN.{length}
 use Rattle.bits.specs.Words.{pick, has}
-use Rattle.told.specs.Numbers.{Refusal, _when_, told}
-use Rattle.table.specs.Numbers.{ROOM}
+use Rattle.told.specs.Numbers.{ROOM, ORDER, Refusal, _when_, told}
 use Rattle.table.specs.Network.{rowStart}
 use Rattle.table.specs.Calls.{netAfterWrite, netAfterFresh}
-use Rattle.desk.specs.Numbers.{ORDER}
 use Rattle.desk.specs.Order.{records, recordAt, idAt, flagsOf, RECEIVE, LONG, orderFits}
 
 -- "per row in order: configuration 19, node ID, command 0D if long, command 84 if receive on, configuration 38": each is the register write itself

@@ -6,7 +6,6 @@ ghost use Prim.Native.Nat.{_+_, _≤_};
 ghost use lib.ListN.{length, take, drop};
 ghost use Rattle.table.specs.Network.{rowLimit, LOST, rowStart, phase, shape};
 ghost use Rattle.desk.specs.Lap.{online, nodes, invitation, passed, invitations, takers, answers, after, lapSteps, lapNumber, lapped, netAfterLap, listAfterLap, nobody, Walks};
-use crate::numbers::ALONE;
 use line::step::Answer;
 use line::step::step_on;
 use table::network::LOST;
@@ -15,10 +14,11 @@ use table::network::phase;
 use table::network::regs_at;
 use table::network::rows;
 use table::network::shape;
-use table::numbers::ROOM;
-use table::numbers::SHAPE;
+use told::numbers::ALONE;
 use told::numbers::BUSY;
 use told::numbers::DONE;
+use told::numbers::ROOM;
+use told::numbers::SHAPE;
 use told::numbers::refuse;
 
 // A row that took the token: its node ID, its number from 0, and the invitations since the holder before.

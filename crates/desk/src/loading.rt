@@ -4,7 +4,6 @@ ghost use mathlib.Core.Bool.{true};
 ghost use Prim.Native.Nat.{_<_};
 ghost use Rattle.table.specs.Network.{rows, shape};
 ghost use Rattle.desk.specs.Load.{loadedRow, loadNumber, netAfterLoad};
-use crate::numbers::ORDER;
 use crate::orders::LONG;
 use crate::orders::RECEIVE;
 use crate::orders::flags_at;
@@ -14,6 +13,7 @@ use crate::orders::records;
 use table::calls::fresh;
 use table::calls::write_on;
 use told::numbers::DONE;
+use told::numbers::ORDER;
 
 // The registers that are written.
 const COMMAND: usize = 1;

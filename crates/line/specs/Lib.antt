@@ -1,4 +1,3 @@
-pub mod Numbers
 pub mod Traffic
 pub mod Step
 pub mod Outcomes

@@ -1,6 +1,6 @@
 -- Document 01, "One line step": LOST, PASS, and the step itself.
 -- Assumes nothing.
-use mathlib.Core.Bool.{Bool, true, false, not, _&&_}
+use mathlib.Core.Bool.{Bool, true, false, not}
 use mathlib.Core.List.{List, [], _∷_}
 use Prim.Native.Nat.{ℕ}
 use lib.Dec.{eqb, ltb}
@@ -9,11 +9,9 @@ use Rattle.line.specs.declared.traffic.Outcome.{Outcome}
 use Rattle.line.specs.declared.step.Answer.{Answer}
 use Rattle.line.specs.declared.step.Answer.the-variants.{Refused, Quiet, Recovered, Passed, Unanswered, TokenLost, Held}
 use Rattle.bits.specs.Words.{pick}
-use Rattle.told.specs.Numbers.{VALUE, Refusal, _when_, told}
+use Rattle.told.specs.Numbers.{SHAPE, VALUE, Refusal, _when_, told}
 use Rattle.registers.specs.Events.{risenNid}
-use Rattle.table.specs.Numbers.{SHAPE}
-use Rattle.line.specs.Numbers.{HOLDER}
-use Rattle.table.specs.Network.{rows, phase, holder, LOST, PASS, TAKEN, turned, regsAt, onLineAt, nodeOf, topId, shape}
+use Rattle.table.specs.Network.{rows, phase, holder, LOST, PASS, TAKEN, turned, regsAt, nodeOf, topId, shape}
 use Rattle.line.specs.Traffic.{Turn, onRow, happened, takenTurn}
 
 -- "3 invitation destroyed"
@@ -54,12 +52,9 @@ unfoldable pub stepTurn : List ℕ → ℕ → Turn Answer
 stepTurn net fault =
     pick (eqb (phase net) LOST) (lostTurn net) (pick (eqb (phase net) PASS) (passTurn net fault) (held (takenTurn net (holder net) fault) (holder net)))
 
--- "4 VALUE: fault above 3"; "11 HOLDER: line step in PASS or TAKEN, holder not on line"
+-- "1 SHAPE", "4 VALUE: fault above 3"
 unfoldable pub stepRefusals : List ℕ → ℕ → List Refusal
-stepRefusals net fault =
-    SHAPE when not (shape net)
-    ∷ VALUE when ltb 3 fault
-    ∷ HOLDER when (not (eqb (phase net) LOST) && not (onLineAt net (holder net))) ∷ []
+stepRefusals net fault = SHAPE when not (shape net) ∷ VALUE when ltb 3 fault ∷ []
 
 unfoldable pub stepNumber : List ℕ → ℕ → ℕ
 stepNumber net fault = told (stepRefusals net fault)

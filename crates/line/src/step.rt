@@ -4,7 +4,6 @@ ghost use mathlib.Core.Bool.{true};
 ghost use Prim.Native.Nat.{_<_};
 ghost use Rattle.table.specs.Network.{rows, holder, shape};
 ghost use Rattle.line.specs.Step.{answerNumber, answerValue, lostTurn, passTurn, stepTurn, stepNumber, step};
-use crate::numbers::HOLDER;
 use crate::passes::Event;
 use crate::passes::happen;
 use crate::traffic::Outcome;
@@ -22,8 +21,8 @@ use table::network::shape;
 use table::network::top_id;
 use table::network::turn;
 use table::network::wide;
-use table::numbers::SHAPE;
 use told::numbers::DONE;
+use told::numbers::SHAPE;
 use told::numbers::VALUE;
 use told::numbers::refuse;
 
@@ -131,16 +130,12 @@ pub fn step_on(net: &mut [u8], fault: usize) -> Answer
     Answer::Held(outcome)
 }
 
-// SHAPE, VALUE and HOLDER.
+// SHAPE and VALUE.
 fn step_number(net: &[u8], fault: usize) -> u8
     ensures { λ r. ⌜ r ≡ stepNumber (now (net .entry)) fault ⌝ }
 {
-    if !shape(net) {
-        return SHAPE;
-    }
-    let n = refuse(DONE, VALUE, 3 < fault);
-    let on_line = regs_at(net, holder(net)).on_line();
-    refuse(n, HOLDER, (phase(net) != LOST) & !on_line)
+    let n = refuse(DONE, SHAPE, !shape(net));
+    refuse(n, VALUE, 3 < fault)
 }
 
 // One line step.

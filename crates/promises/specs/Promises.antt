@@ -1,15 +1,16 @@
 -- What holds of every public call.
 -- Assumes nothing.
 use mathlib.Core.Path.{_≡_}
-use mathlib.Core.Bool.{Bool, true, false}
-use mathlib.Core.List.{List, [], _∷_}
+use mathlib.Core.Bool.{Bool, true, false, not, _&&_}
+use mathlib.Core.List.{List, [], _∷_, _++_}
 use Prim.Native.Nat.{ℕ, _+_, _*_, _≤_, _<_}
+use lib.Dec.{eqb}
 use lib.ListN.{length, getD}
 use Rattle.bits.specs.Words.{among}
 use Rattle.registers.specs.Layout.{at-diagnostic, readChanges}
 use Rattle.registers.specs.Sides.{chaining}
 use Rattle.registers.specs.Plain.{Plain}
-use Rattle.told.specs.Numbers.{Smallest}
+use Rattle.told.specs.Numbers.{ORDER, numbers, Refusal, _when_, told, rises, Smallest}
 use Rattle.card.specs.Packets.{shapeOf, dataBytes, CanBeSent, malformed}
 use Rattle.card.specs.Moves.{OnlyAt}
 use Rattle.line.specs.declared.traffic.Outcome.{Outcome}
@@ -19,7 +20,6 @@ use Rattle.table.specs.Calls.{placeRefusals, placeNumber, netReadRefusals, netR
 use Rattle.line.specs.Step.{stepRefusals, step, answerNumber, answerValue, highest}
 use Rattle.line.specs.Outcomes.{stores, rowMoves, HolderLeft, PlainLeft, meets}
 use Rattle.desk.specs.declared.laps.Taker.{Taker}
-use Rattle.desk.specs.Numbers.{ORDER}
 use Rattle.desk.specs.Order.{records, orderFits, idAt}
 use Rattle.desk.specs.Load.{roomRefusals, loadNumber, netAfterLoad}
 use Rattle.desk.specs.Lap.{nodes, after, answers, takers, lapSteps, lapRefusals, lapNumber, lapped, netAfterLap, lapTakers, listAfterLap}
@@ -65,6 +65,22 @@ pub record SmallestWins : Type 0 where
   pub lap : (net : List ℕ) (room : ℕ) → Smallest (lapRefusals net room) (lapped net room .number)
   pub load-order : (order net : List ℕ) → orderFits order ≡ false → loadNumber order net ≡ ORDER
   pub load-room : (order net : List ℕ) → orderFits order ≡ true → Smallest (roomRefusals order net) (loadNumber order net)
+
+-- ---- C-20, of number 11, document 01's "line step in PASS or TAKEN, holder not on line"
+abbrev pub holderOffLine : List ℕ → Bool
+holderOffLine net = not (eqb (phase net) LOST) && not (onLineAt net (holder net))
+
+-- "a line step can never answer" it, "because SHAPE comes first": SHAPE refuses such a network, and a step that asked this test too, behind its others, would tell
+-- no other number. "Its number is not given again": the numbers rise, so that each is given once, and no call tells 11, whatever its bytes; of those whose smallest
+-- number wins that is said in general
+pub record NumberEleven : Type 0 where
+  pub shape-first : (net : List ℕ) → holderOffLine net ≡ true → shape net ≡ false
+  pub asked-too : (net : List ℕ) (fault : ℕ) → told (stepRefusals net fault ++ (11 when holderOffLine net ∷ [])) ≡ answerNumber (step net fault .answer)
+  pub step-of : (net : List ℕ) (fault : ℕ) → answerNumber (step net fault .answer) ≡ 11 → ⊥
+  pub lap : (net : List ℕ) (room : ℕ) → lapped net room .number ≡ 11 → ⊥
+  pub load : (order net : List ℕ) → loadNumber order net ≡ 11 → ⊥
+  pub any-call : (l : List Refusal) (n : ℕ) → Smallest l n → n ≡ 11 → ⊥
+  pub once : rises numbers ≡ true
 
 -- ---- a call leaves a well-formed network well formed, and what the fresh call and loading make is so: no call can bring the bench where SHAPE refuses it
 pub record StaysWellFormed : Type 0 where

@@ -51,8 +51,8 @@ const ERROR: usize = 12;
 
 const DONE: usize = 21;
 
-// A line for each text.
-const TEXTS: [u8; 664] = *b"QUIET\n\
+// A line for each text. That of 11 is empty: no call tells it (C-20).
+const TEXTS: [u8; 647] = *b"QUIET\n\
     TOKENLOST\n\
     RECOVERED\n\
     PASSED\n\
@@ -84,7 +84,7 @@ const TEXTS: [u8; 664] = *b"QUIET\n\
     REFUSED 8 ONLINE\n\
     REFUSED 9 PAGE\n\
     REFUSED 10 DUPLICATE\n\
-    REFUSED 11 HOLDER\n\
+    \n\
     REFUSED 12 ALONE\n\
     REFUSED 13 ROOM\n\
     REFUSED 14 ORDER\n";

@@ -8,7 +8,7 @@ use lib.ListN.{length, replicate}
 use Rattle.table.specs.declared.calls.Reading.{Reading}
 use Rattle.table.specs.declared.calls.Interrupting.{Interrupting}
 use Rattle.bits.specs.Words.{pick, among}
-use Rattle.told.specs.Numbers.{VALUE, NOTREADY, Refusal, _when_, told}
+use Rattle.told.specs.Numbers.{SHAPE, ROW, VALUE, NOTREADY, DUPLICATE, ROOM, Refusal, _when_, told}
 use Rattle.registers.specs.Fit.{onLine}
 use Rattle.registers.specs.Registers.{interrupt, afterWrite}
 use Rattle.registers.specs.Layout.{at-diagnostic, resetBytes}
@@ -18,7 +18,6 @@ use Rattle.card.specs.Access.{valueRead, rowAfterRead, rowAfterWrite, rowAfterR
 use Rattle.card.specs.Moves.{writeMoves}
 use Rattle.card.specs.Packets.{dataRefusals, dataFrom, pageData}
 use Rattle.registers.specs.Events.{burst}
-use Rattle.table.specs.Numbers.{SHAPE, ROW, DUPLICATE, ROOM}
 use Rattle.table.specs.Network.{mark, rowLimit, rowStart, rows, phase, holder, LOST, turned, rowAt, setRow, onRegs, regsAt, onLineAt, nodeOf, shape}
 
 -- "1 SHAPE", "2 ROW: row not below n": the refusals of every call to a row, before its own

@@ -1,4 +1,3 @@
-pub mod Numbers
 pub mod Folds
 pub mod Network
 pub mod Calls

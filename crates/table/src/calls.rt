@@ -22,13 +22,13 @@ use crate::network::row_at;
 use crate::network::rows;
 use crate::network::shape;
 use crate::network::turn;
-use crate::numbers::DUPLICATE;
-use crate::numbers::ROOM;
-use crate::numbers::ROW;
-use crate::numbers::SHAPE;
 use card::row::ROW_BYTES;
 use told::numbers::DONE;
+use told::numbers::DUPLICATE;
 use told::numbers::NOTREADY;
+use told::numbers::ROOM;
+use told::numbers::ROW;
+use told::numbers::SHAPE;
 use told::numbers::VALUE;
 use told::numbers::refuse;
 

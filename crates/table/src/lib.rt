@@ -2,4 +2,3 @@
 // the card's contracts.
 pub mod calls;
 pub mod network;
-pub mod numbers;

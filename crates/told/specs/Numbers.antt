@@ -1,15 +1,23 @@
--- Document 01, "Numbers a caller may get": the card's own numbers, a call's refusals, and the number that is told.
+-- Document 01, "Numbers a caller may get": the numbers, a call's refusals, and the number that is told.
 -- Assumes nothing.
 use mathlib.Core.Path.{_≡_}
 use mathlib.Core.Bool.{Bool, true, false, _&&_}
 use mathlib.Core.List.{List, [], _∷_}
 use Prim.Native.Nat.{ℕ, _≤_}
 use lib.Dec.{eqb, ltb}
-use Rattle.bits.specs.Words.{pick}
+use Rattle.bits.specs.Words.{pick, among}
 
 -- "0 DONE"
 abbrev pub DONE : ℕ
 DONE = 0
+
+-- "network not well formed or of wrong length (not asked by fresh or loading)"
+abbrev pub SHAPE : ℕ
+SHAPE = 1
+
+-- "row not below n"
+abbrev pub ROW : ℕ
+ROW = 2
 
 -- "above 7; 5; 7 with sub-address 11; write of 7 and read of 7 alike"
 abbrev pub REGISTER : ℕ
@@ -39,6 +47,26 @@ ONLINE = 8
 abbrev pub PAGE : ℕ
 PAGE = 9
 
+-- "a write would put a second on-line row on one ID"
+abbrev pub DUPLICATE : ℕ
+DUPLICATE = 10
+
+-- "lap with fewer than two on line"
+abbrev pub ALONE : ℕ
+ALONE = 12
+
+-- "lent list shorter than n on line; fresh or loaded network not of exact length"
+abbrev pub ROOM : ℕ
+ROOM = 13
+
+-- "order not as above"
+abbrev pub ORDER : ℕ
+ORDER = 14
+
+-- the numbers that a refusal may have. C-20: 11 "is not given again"
+abbrev pub numbers : List ℕ
+numbers = SHAPE ∷ ROW ∷ REGISTER ∷ VALUE ∷ NOTREADY ∷ DIRECTION ∷ BUSY ∷ ONLINE ∷ PAGE ∷ DUPLICATE ∷ ALONE ∷ ROOM ∷ ORDER ∷ []
+
 -- a refusal of a call: its number, and the test that says whether it holds
 infix 70 _when_
 pub data Refusal : Type 0 where
@@ -56,12 +84,20 @@ toldAfter n (number when test ∷ l) = toldAfter (refuse n number test) l
 abbrev pub told : List Refusal → ℕ
 told l = toldAfter DONE l
 
--- each number is above the one before it, and the first above DONE
-abbrev pub risesFrom : ℕ → List Refusal → Bool
-risesFrom n [] = true
-risesFrom n (number when test ∷ l) = ltb n number && risesFrom number l
+-- the numbers of a list of refusals
+abbrev pub numbersOf : List Refusal → List ℕ
+numbersOf [] = []
+numbersOf (number when test ∷ l) = number ∷ numbersOf l
 
-abbrev pub rises : List Refusal → Bool
+-- each number is one that a refusal may have, above the one before it, and the first above DONE
+abbrev pub follows : ℕ → ℕ → Bool
+follows n number = ltb n number && among numbers number
+
+abbrev pub risesFrom : ℕ → List ℕ → Bool
+risesFrom n [] = true
+risesFrom n (number ∷ l) = follows n number && risesFrom number l
+
+abbrev pub rises : List ℕ → Bool
 rises l = risesFrom DONE l
 
 -- the refusal with the number n holds; it does not where the list has none of that number
@@ -69,7 +105,9 @@ abbrev pub refuses : List Refusal → ℕ → Bool
 refuses [] n = false
 refuses (number when test ∷ l) n = pick (eqb n number) test (refuses l n)
 
--- "The smallest number wins": what is told is the number of a refusal that holds, and none that holds has a smaller; or DONE, and none holds
+-- "The smallest number wins": what is told is DONE, and no refusal holds; or it is a number that a refusal may have, that of one that holds, and none that
+-- holds has a smaller
 pub record Smallest (l : List Refusal) (n : ℕ) : Type 0 where
+  pub given : (n ≡ DONE → ⊥) → among numbers n ≡ true
   pub one : (n ≡ DONE → ⊥) → refuses l n ≡ true
   pub least : (m : ℕ) → refuses l m ≡ true → (n ≡ DONE → ⊥) × (n ≤ m)

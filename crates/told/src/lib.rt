@@ -1,2 +1,2 @@
-// The numbers of a card's refusals, and how those of a call make the one that is told.
+// The numbers a caller may get, and how those of a call make the one that is told.
 pub mod numbers;

@@ -10,7 +10,7 @@ use lib.Dec.{ltb}
 use lib.ListN.{take}
 use Rattle.card.specs.declared.packets.Shape.{Shape}
 use Rattle.card.specs.declared.packets.Shape.the-variants.{Malformed, Short, Long}
-use Rattle.told.specs.Numbers.{DONE, VALUE, risesFrom}
+use Rattle.told.specs.Numbers.{DONE, ROW, VALUE, numbersOf, risesFrom}
 use Rattle.card.specs.Packets.{malformed, dataBytes, pageShape, dataRefusals, dataNumber, pageData}
 use Rattle.bits.proofs.Words.Bools.{cases}
 use Rattle.told.proofs.Told.Smallest.{refuse-held, refuse-passed}
@@ -34,6 +34,6 @@ pub page-refused : (r : List ℕ) (k : ℕ) → ltb 3 k ≡ true → dataNumber 
 unfolding dataRefusals
 page-refused r k t e = let f = refuse-held VALUE (ltb 3 k || malformed (pageShape r k)) (rw t) in omega (arith, f, e)
 
-pub data-rises : (r : List ℕ) (p : ℕ) → risesFrom 2 (dataRefusals r p) ≡ true
+pub data-rises : (r : List ℕ) (p : ℕ) → risesFrom ROW (numbersOf (dataRefusals r p)) ≡ true
 unfolding dataRefusals
 data-rises r p = refl

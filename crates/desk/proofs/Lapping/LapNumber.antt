@@ -7,11 +7,9 @@ use Prim.Native.Nat.{ℕ, _≤_}
 use native.Mathlib.Omega.{arith}
 use lib.Dec.{eqb, ltb}
 use borrow.Author.Tests.{not-false, eqb-true, ltb-false}
-use Rattle.told.specs.Numbers.{DONE, BUSY, Smallest, refuse, refuses}
+use Rattle.told.specs.Numbers.{DONE, SHAPE, BUSY, ALONE, ROOM, Smallest, refuse, refuses}
 use Rattle.told.proofs.Told.Smallest.{smallest, refuse-held, refuse-passed, refuse-stays, none-refuses}
-use Rattle.table.specs.Numbers.{SHAPE, ROOM}
 use Rattle.table.specs.Network.{rows, phase, LOST, shape}
-use Rattle.desk.specs.Numbers.{ALONE}
 use Rattle.desk.specs.Lap.{online, nodes, lapRefusals, lapNumber, lapped}
 
 module _ (net : List ℕ) (room : ℕ) where

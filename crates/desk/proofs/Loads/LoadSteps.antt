@@ -15,7 +15,7 @@ use Rattle.table.specs.Calls.{netAfterWrite, freshNumber, netAfterFresh, freshN
 use Rattle.table.proofs.Access.Fresh.{fresh-refused, fresh-room, fresh-net, header-fresh}
 use Rattle.table.proofs.Access.ShapeCalls.{shape-write, shape-fresh}
 use Rattle.table.proofs.Access.Beside.{beside-count, write-beside}
-use Rattle.desk.specs.Numbers.{ORDER}
+use Rattle.told.specs.Numbers.{ORDER}
 use Rattle.desk.specs.Order.{records, recordAt, idAt, flagsOf, RECEIVE, LONG, orderFits}
 use Rattle.desk.specs.Load.{set19, setId, setLong, setReceive, loadedRow, loadedRows, loadNumber, netAfterLoad}
 use Rattle.desk.proofs.Forms.OrderLaws.{order-records}

@@ -12,9 +12,8 @@ use lib.ListN.{length}
 use borrow.Author.Tests.{ne-eqb, ltb-true, ltb-false}
 use Rattle.card.specs.Row.{regsOf}
 use Rattle.registers.specs.Registers.{hardwareReset}
-use Rattle.told.specs.Numbers.{DONE, told}
+use Rattle.told.specs.Numbers.{DONE, ROOM, ORDER, told}
 use Rattle.told.proofs.Told.Smallest.{refuse-held, refuse-passed, refuse-stays}
-use Rattle.table.specs.Numbers.{ROOM}
 use Rattle.card.specs.Access.{freshRow}
 use Rattle.bits.proofs.Words.Bools.{cases}
 use Rattle.card.proofs.Rows.WellFormed.{fresh-off}
@@ -25,7 +24,6 @@ use Rattle.table.proofs.Folds.{clash}
 use Rattle.table.proofs.Online.Nodes.{online-is, node-online, node-id, online-same}
 use Rattle.table.proofs.Access.Fresh.{fresh-room, fresh-net, header-fresh, rowAt-fresh}
 use Rattle.table.proofs.Access.ShapeCalls.{shape-fresh}
-use Rattle.desk.specs.Numbers.{ORDER}
 use Rattle.desk.specs.Order.{records, recordAt, idAt, flagsOf, orderFits}
 use Rattle.desk.specs.Load.{loadedRow, loadedRows, roomRefusals, loadRefusals, loadNumber, netAfterLoad}
 use Rattle.desk.proofs.Forms.OrderLaws.{order-records, order-id, order-differ}

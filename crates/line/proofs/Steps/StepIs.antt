@@ -1,26 +1,22 @@
 -- What one fault-free line step of a well formed network is, phase by phase.
 -- Assumes nothing.
 use mathlib.Core.Path.{_≡_, refl, sym, _∙_, ap}
-use mathlib.Core.Bool.{true, false, not, _&&_}
+use mathlib.Core.Bool.{true, false, not}
 use mathlib.Core.List.{List}
-use mathlib.Core.Logic.{⊎-elim}
 use Prim.Native.Nat.{ℕ, _≤_, _<_}
 use lib.Dec.{eqb, ltb}
-use borrow.Author.Tests.{eqb-false, eq-eqb, ne-eqb, ltb-true, lt-ltb, le-ltb}
+use borrow.Author.Tests.{eq-eqb, ne-eqb, ltb-true, lt-ltb, le-ltb}
 use Rattle.line.specs.declared.passes.Event.the-variants.{Recovery, Message, Taken}
 use Rattle.line.specs.declared.step.Answer.{Answer}
 use Rattle.line.specs.declared.step.Answer.the-variants.{Recovered, Passed, Unanswered}
-use Rattle.told.specs.Numbers.{DONE, VALUE}
+use Rattle.told.specs.Numbers.{DONE, SHAPE, VALUE}
 use Rattle.told.proofs.Told.Smallest.{refuse-passed}
-use Rattle.table.specs.Numbers.{SHAPE}
-use Rattle.line.specs.Numbers.{HOLDER}
 use Rattle.registers.specs.Events.{risenNid}
-use Rattle.bits.proofs.Words.Bools.{cases, pick-of}
-use Rattle.table.specs.Network.{rows, phase, holder, LOST, PASS, TAKEN, turned, topId, shape, onLineAt}
+use Rattle.bits.proofs.Words.Bools.{pick-of}
+use Rattle.table.specs.Network.{rows, phase, holder, LOST, PASS, TAKEN, turned, topId, shape}
 use Rattle.line.specs.Traffic.{Turn, onRow, happened, takenTurn}
 use Rattle.line.specs.Step.{highest, lostTurn, invited, taker, passTurn, held, stepTurn, stepRefusals, stepNumber, step, answerValue}
 use Rattle.table.proofs.Folds.{clash}
-use Rattle.table.proofs.Shaped.Shapes.{shape-holder}
 
 -- every other row hears the invitation
 abbrev pub invitation : List ℕ → List ℕ
@@ -30,12 +26,7 @@ module _ (net : List ℕ) (s : shape net ≡ true) where
   -- the step is not refused
   number-is : stepNumber net 0 ≡ 0
   unfolding stepNumber stepRefusals
-  number-is = rw (refuse-passed DONE SHAPE (not (shape net)) (ap not s), refuse-passed DONE VALUE false refl, refuse-passed DONE HOLDER (not (eqb (phase net) LOST) && not (onLineAt net (holder net))) held)
-    where
-      held : (not (eqb (phase net) LOST) && not (onLineAt net (holder net))) ≡ false
-      held =
-          ⊎-elim (λ (t : eqb (phase net) LOST ≡ true). rw t)
-          (λ (t : eqb (phase net) LOST ≡ false). rw (t, shape-holder net s (eqb-false (phase net) LOST t) .1)) (cases (eqb (phase net) LOST))
+  number-is = rw (refuse-passed DONE SHAPE (not (shape net)) (ap not s), refuse-passed DONE VALUE false refl)
 
   pub step-is : step net 0 ≡ stepTurn net 0
   unfolding step

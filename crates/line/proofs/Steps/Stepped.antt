@@ -1,26 +1,21 @@
 -- The public step: its refusals, and the step of a network that SHAPE does not refuse.
 -- Assumes nothing.
-use mathlib.Core.Path.{_≡_, refl, sym, _∙_, ap}
-use mathlib.Core.Bool.{Bool, true, false, not, _&&_}
+use mathlib.Core.Path.{_≡_, refl, sym, _∙_}
+use mathlib.Core.Bool.{Bool, true, not}
 use mathlib.Core.List.{List}
 use mathlib.Core.Logic.{⊎-elim}
 use Prim.Native.Nat.{ℕ, _<_}
 use native.Mathlib.Omega.{arith}
 use borrow.Author.Tests.{eq-eqb, ne-eqb, eqb-true, eqb-false, not-false}
 use lib.Dec.{eqb, ltb}
-use Rattle.registers.specs.declared.regs.Regs.{Regs}
 use Rattle.line.specs.declared.step.Answer.{Answer}
 use Rattle.line.specs.declared.step.Answer.the-variants.{Refused}
-use Rattle.registers.specs.Fit.{onLine}
-use Rattle.told.specs.Numbers.{DONE, VALUE, refuse}
+use Rattle.told.specs.Numbers.{DONE, SHAPE, VALUE, refuse}
 use Rattle.bits.proofs.Words.Bools.{cases, pick-of}
-use Rattle.told.proofs.Told.Smallest.{refuse-held, refuse-passed, refuse-stays, none-refuses}
-use Rattle.table.specs.Numbers.{SHAPE}
-use Rattle.line.specs.Numbers.{HOLDER}
-use Rattle.table.specs.Network.{rows, phase, holder, LOST, PASS, regsAt, onLineAt, topId, shape}
+use Rattle.told.proofs.Told.Smallest.{none-refuses}
+use Rattle.table.specs.Network.{rows, phase, holder, LOST, PASS, topId, shape}
 use Rattle.line.specs.Traffic.{Turn}
 use Rattle.line.specs.Step.{destroyed, taker, lostTurn, passTurn, stepRefusals, stepNumber, stepTurn, step, answerNumber}
-use Rattle.table.proofs.Online.Nodes.{online-is}
 use Rattle.table.proofs.Shaped.Shapes.{shape-rows, shape-holder, shape-lost}
 
 -- in every phase the holder's byte names a row
@@ -30,20 +25,10 @@ held-row net s =
     (cases (eqb (phase net) LOST))
 
 module _ (net : List ℕ) (fault : ℕ) where
-  -- SHAPE, as the code asks it first, and the refusals after it
-  module _ (s : Bool) (e : s ≡ shape net) where
-    pub number-shape : not s ≡ true → SHAPE ≡ stepNumber net fault
-    unfolding stepNumber stepRefusals
-    number-shape f =
-        let n : SHAPE ≡ DONE → ⊥ = λ z. omega arith in
-        rw (refuse-held SHAPE (not (shape net)) (ap not (sym e) ∙ f), refuse-stays SHAPE VALUE (ltb 3 fault) n, refuse-stays SHAPE HOLDER (not (eqb (phase net) LOST) && not (onLineAt net (holder net))) n)
-
-    pub number-asked : not s ≡ false → (p : ℕ) → p ≡ phase net → (h : ℕ) → h ≡ holder net → (g : Regs) → g ≡ regsAt net h → (o : Bool) → o ≡ onLine g
-        → (n : ℕ) → n ≡ refuse DONE VALUE (ltb 3 fault) → (k : ℕ) → k ≡ refuse n HOLDER (not (eqb p LOST) && not o) → k ≡ stepNumber net fault
-    unfolding stepNumber stepRefusals
-    number-asked f p ep h eh g eg o eo n en k ek =
-        let i : o ≡ onLineAt net (holder net) = online-is net h g o eg eo ∙ ap (onLineAt net) eh in
-        rw (refuse-passed DONE SHAPE (not (shape net)) (ap not (sym e) ∙ f)) (ek ∙ rw (en, i, ep))
+  -- SHAPE and VALUE, as the code asks them
+  pub number-asked : (s : Bool) → s ≡ shape net → (n : ℕ) → n ≡ refuse DONE SHAPE (not s) → (k : ℕ) → k ≡ refuse n VALUE (ltb 3 fault) → k ≡ stepNumber net fault
+  unfolding stepNumber stepRefusals
+  number-asked s e n en k ek = ek ∙ rw (en, e)
 
   module _ (k : ℕ) (number-is : k ≡ stepNumber net fault) where
     pub step-shape : k ≡ 0 → shape net ≡ true

@@ -10,13 +10,12 @@ use lib.ListN.{length, set, drop, replicate, length-append, length-drop, drop-of
 use lib.Seq.{length-take-le, take-at, drop-at, drop-drop}
 use borrow.Author.Tests.{eq-eqb, ne-eqb, eqb-true, ltb-false, le-ltb, not-false, eqb-false}
 use borrow.Rule.Slice.PartMut.{midOf, putMid}
-use Rattle.told.specs.Numbers.{DONE, VALUE, refuse, refuses}
+use Rattle.told.specs.Numbers.{DONE, VALUE, ROOM, refuse, refuses}
 use Rattle.card.specs.Row.{rowBytes}
 use Rattle.card.specs.Access.{freshRow}
 use Rattle.bits.proofs.Words.Bools.{or-right, or-left}
 use Rattle.told.proofs.Told.Smallest.{refuse-held, refuse-passed, refuse-stays, none-refuses}
 use Rattle.card.proofs.Rows.WellFormed.{length-fresh}
-use Rattle.table.specs.Numbers.{ROOM}
 use Rattle.table.specs.Network.{headerBytes, mark, rowLimit, rowStart, rows, phase, LOST, rowAt, setRow, eachRow}
 use Rattle.table.specs.Calls.{freshRows, freshNet, freshRefusals, freshNumber, netAfterFresh}
 use Rattle.table.proofs.Rows.EachRow.{eachRow-row}

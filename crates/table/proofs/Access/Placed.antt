@@ -10,7 +10,7 @@ use lib.ListN.{length}
 use borrow.Author.Tests.{eq-eqb, ne-eqb, leb-false, lt-leb, not-false}
 use borrow.Rule.Slice.PartMut.{midOf, putMid}
 use Rattle.registers.specs.declared.regs.Regs.{Regs}
-use Rattle.told.specs.Numbers.{DONE, Refusal, refuse, told, refuses}
+use Rattle.told.specs.Numbers.{DONE, SHAPE, ROW, Refusal, refuse, told, refuses}
 use Rattle.card.specs.Row.{rowBytes, putRegs}
 use Rattle.registers.specs.Registers.{interrupt}
 use Rattle.card.specs.Access.{valueRead, rowAfterRead}
@@ -21,7 +21,6 @@ use Rattle.registers.specs.Events.{burst}
 use Rattle.told.proofs.Told.Smallest.{refuse-held, refuse-passed, refuse-stays, told-first, told-second, told-both, none-refuses}
 use Rattle.table.specs.declared.calls.Reading.{Reading}
 use Rattle.table.specs.declared.calls.Interrupting.{Interrupting}
-use Rattle.table.specs.Numbers.{SHAPE, ROW}
 use Rattle.table.specs.Network.{rowLimit, rowStart, rows, LOST, turned, rowAt, setRow, regsAt, shape}
 use Rattle.table.specs.Calls.{placeRefusals, placeNumber, netReadNumber, netReading, netAfterRead, netWriteNumber, timerNumber, netAfterTimer, netInterrupt, netDataFrom, netData, netDataNumber}
 use Rattle.table.proofs.Rows.Networks.{mid-row, put-row}

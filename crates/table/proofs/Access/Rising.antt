@@ -3,19 +3,18 @@
 use mathlib.Core.Path.{refl, _≡_}
 use mathlib.Core.List.{List, [], _∷_, _++_}
 use Prim.Native.Nat.{ℕ}
-use Rattle.told.specs.Numbers.{Smallest, _when_, Refusal, risesFrom, rises}
+use Rattle.told.specs.Numbers.{ROW, DUPLICATE, Refusal, _when_, numbersOf, risesFrom, rises, Smallest}
 use Rattle.registers.specs.Refusals.{writeRefusals}
-use Rattle.told.proofs.Told.Smallest.{smallest}
-use Rattle.registers.proofs.Values.Rising.{rises-append, read-rises, write-rises, write-last}
+use Rattle.told.proofs.Told.Smallest.{rises-append, smallest}
+use Rattle.registers.proofs.Values.Rising.{read-rises, write-rises, write-last}
 use Rattle.card.proofs.Pages.Refused.{data-rises}
-use Rattle.table.specs.Numbers.{DUPLICATE, ROW}
 use Rattle.table.specs.Network.{rowAt, regsAt}
 use Rattle.table.specs.Calls.{placeRefusals, placeNumber, netReadRefusals, netReadNumber, netReading, duplicate, netWriteRefusals, netWriteNumber, timerRefusals, timerNumber, netInterrupt, netDataRefusals, netDataNumber, freshRefusals, freshNumber}
 use mathlib.Core.Bool.{true}
 
 module _ (net : List ℕ) (k : ℕ) where
   -- whatever rises from ROW on may follow SHAPE and ROW
-  pub place-rises : (l : List Refusal) → risesFrom ROW l ≡ true → rises (placeRefusals net k ++ l) ≡ true
+  pub place-rises : (l : List Refusal) → risesFrom ROW (numbersOf l) ≡ true → rises (numbersOf (placeRefusals net k ++ l)) ≡ true
   unfolding placeRefusals
   place-rises l e = e
 
@@ -31,7 +30,7 @@ module _ (net : List ℕ) (k : ℕ) where
   unfolding netWriteNumber
   write-smallest g v =
       smallest (netWriteRefusals net k g v)
-      (place-rises _ (rises-append (writeRefusals (regsAt net k) g v) (DUPLICATE when duplicate net k g v ∷ []) 2 (write-rises (regsAt net k) g v) (rw (write-last (regsAt net k) g v))))
+      (place-rises _ (rises-append (writeRefusals (regsAt net k) g v) (DUPLICATE when duplicate net k g v ∷ []) ROW (write-rises (regsAt net k) g v) (rw (write-last (regsAt net k) g v))))
 
   pub timer-smallest : Smallest (timerRefusals net k) (timerNumber net k)
   unfolding timerNumber

@@ -7,7 +7,7 @@ use Prim.Native.Nat.{ℕ, _<_}
 use lib.Dec.{eqb, ltb}
 use borrow.Author.Tests.{eq-eqb, ne-eqb}
 use Rattle.registers.specs.declared.regs.Regs.{Regs}
-use Rattle.told.specs.Numbers.{DONE, _when_, refuse}
+use Rattle.told.specs.Numbers.{DONE, DUPLICATE, _when_, refuse}
 use Rattle.card.specs.Row.{putRegs}
 use Rattle.registers.specs.Fit.{onLine}
 use Rattle.registers.specs.Registers.{afterWrite}
@@ -16,7 +16,6 @@ use Rattle.card.specs.Access.{rowAfterWrite, rowAfterReset}
 use Rattle.registers.specs.Events.{burst}
 use Rattle.bits.proofs.Words.Bools.{and-assoc}
 use Rattle.told.proofs.Told.Smallest.{told-append}
-use Rattle.table.specs.Numbers.{DUPLICATE}
 use Rattle.table.specs.Network.{rows, phase, holder, LOST, turned, regsAt, onLineAt, nodeOf, shape, rowAt, setRow}
 use Rattle.table.specs.Calls.{placeNumber, isHolder, settled, duplicate, rowWriteRefusals, netWriteNumber, netAfterWrite, netAfterReset}
 use Rattle.table.proofs.Rows.Networks.{mid-row, put-row}

@@ -7,7 +7,7 @@ use Prim.Native.Nat.{ℕ, _≤_, _<_}
 use native.Mathlib.Omega.{arith}
 use lib.Dec.{eqb, ltb, lit<}
 use borrow.Author.Tests.{eqb-true, ltb-false}
-use Rattle.told.specs.Numbers.{_when_}
+use Rattle.told.specs.Numbers.{DUPLICATE, _when_}
 use Rattle.registers.specs.Fit.{onLine}
 use Rattle.registers.specs.Registers.{afterWrite, hardwareReset}
 use Rattle.card.specs.Access.{rowAfterRead, rowAfterWrite, rowAfterReset}
@@ -18,7 +18,6 @@ use Rattle.card.proofs.Rows.Bytes.{length-put}
 use Rattle.card.proofs.Rows.WellFormed.{length-read, length-write, well-reset, well-write, well-fresh}
 use Rattle.card.proofs.Rows.WellFormed.{fresh-off}
 use Rattle.card.proofs.Words.Zeros.{zeros-replicate}
-use Rattle.table.specs.Numbers.{DUPLICATE}
 use Rattle.table.specs.Network.{rowLimit, rows, rowAt, regsAt, onLineAt, isNode, nodeOf, shape}
 use Rattle.table.specs.Calls.{placeRefusals, placeNumber, netReadNumber, netAfterRead, duplicate, rowWriteRefusals, netWriteNumber, netAfterWrite, netAfterReset, timerNumber, netAfterTimer, freshNet, freshNumber, netAfterFresh}
 use Rattle.table.proofs.Folds.{clash, seek-at-most}

@@ -20,7 +20,7 @@ use Rattle.registers.specs.Events.{burst}
 use Rattle.bits.proofs.Words.Bools.{cases, and-false}
 use Rattle.card.proofs.Rows.Bytes.{regs-put, length-put}
 use Rattle.card.proofs.Rows.WellFormed.{length-write}
-use Rattle.table.specs.Numbers.{DUPLICATE}
+use Rattle.told.specs.Numbers.{DUPLICATE}
 use Rattle.table.specs.Network.{rowStart, rows, phase, LOST, rowAt, setRow, onRegs, regsAt, onLineAt, isNode, nodeOf, shape}
 use Rattle.table.specs.Calls.{settled, duplicate, netWriteNumber, netAfterWrite}
 use Rattle.table.proofs.Folds.{seek-not}
