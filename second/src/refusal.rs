@@ -1,7 +1,7 @@
 //! Document 01, "Numbers a caller may get".
 
-/// A refusal by its number. Number 11, HOLDER, has no case: SHAPE comes before it and already asks
-/// that outside LOST the holder is on line.
+/// A refusal by its number. 11 is not given again (request C-20): SHAPE comes first and already
+/// asks that outside LOST the holder is on line.
 #[derive(Clone, Copy, Debug, PartialEq, Eq)]
 pub enum Refusal {
     Shape = 1,

@@ -116,14 +116,18 @@ impl<'a> Player<'a> {
             .nth(nth)
     }
 
-    /// A row with chaining, where there is one.
-    fn some_row_chaining(&mut self) -> Option<usize> {
+    /// A row of which this holds, where there is one.
+    fn some_row_that(&mut self, holds: fn(&Row) -> bool) -> Option<usize> {
         let first = self.some_row();
         let network = self.both.network()?;
         let rows = network.rows.len();
         (first..first + rows)
             .map(|row| row % rows)
-            .find(|row| network.rows[*row].chaining())
+            .find(|row| holds(&network.rows[*row]))
+    }
+
+    fn some_row_chaining(&mut self) -> Option<usize> {
+        self.some_row_that(Row::chaining)
     }
 
     /// Writes a configuration, with CCHEN as the row has it.
@@ -754,20 +758,52 @@ impl<'a> Player<'a> {
             let change = self.changed_bytes();
             self.damaged_by(change)?;
         }
+        if self.rng.flag() {
+            self.steps_without_holder()?;
+        }
         self.call("check")
     }
 
-    /// Some bytes changed, some calls, and the bytes put back.
+    /// Some bytes changed, a `check` and some calls, and the bytes put back.
     fn damaged_by(&mut self, (at, new): (usize, Vec<u8>)) -> Played {
+        self.meanwhile(at, &new, |player| {
+            player.call("check")?;
+            for _ in 0..player.rng.below(4) {
+                player.any_call()?;
+            }
+            Ok(())
+        })
+    }
+
+    /// Steps, and perhaps a lap, in PASS or TAKEN while the holder is off line (C-20).
+    fn steps_without_holder(&mut self) -> Played {
+        let Some(holder) = self.some_row_that(|row| !row.on_line()) else {
+            return Ok(());
+        };
+        let phase = self.rng.pick(&[1, 2]);
+        self.meanwhile(4, &[phase, holder as u8], |player| {
+            let count = player.rng.between(1, 4);
+            player.steps(count)?;
+            if player.rng.flag() {
+                player.any_lap()?;
+            }
+            Ok(())
+        })
+    }
+
+    /// Makes calls while some bytes are others, and puts the bytes back.
+    fn meanwhile(
+        &mut self,
+        at: usize,
+        new: &[u8],
+        calls: impl FnOnce(&mut Self) -> Played,
+    ) -> Played {
         let place = at..at + new.len();
         let Some(old) = self.both.lent().image().get(place).map(<[u8]>::to_vec) else {
             return Ok(());
         };
-        self.poke(at, &new)?;
-        self.call("check")?;
-        for _ in 0..self.rng.below(4) {
-            self.any_call()?;
-        }
+        self.poke(at, new)?;
+        calls(self)?;
         self.poke(at, &old)
     }
 

@@ -37,6 +37,8 @@ pub fn can_come() -> Vec<(String, &'static [&'static str])> {
     let mut all = vec![
         (packet(false), PACKET),
         (packet(true), PACKET),
+        (holder_off_line("PASS"), SHAPE),
+        (holder_off_line("TAKEN"), SHAPE),
         (byte_changed("3"), DONE_OR_SHAPE),
         (byte_changed("16"), DONE_OR_SHAPE),
         (byte_changed("17"), DONE_OR_SHAPE),
@@ -106,6 +108,10 @@ pub fn can_come() -> Vec<(String, &'static [&'static str])> {
 
 fn packet(long: bool) -> String {
     format!("step, {} packet", if long { "long" } else { "short" })
+}
+
+fn holder_off_line(phase: &str) -> String {
+    format!("step, {phase}, holder off line")
 }
 
 fn byte_changed(which: &str) -> String {
@@ -274,6 +280,24 @@ impl View {
     fn on_line(&self) -> impl Iterator<Item = &Glance> {
         self.rows.iter().filter(|row| row.on_line)
     }
+
+    /// The phase of header bytes 4 and 5, where these are poked, the phase is not LOST and the
+    /// holder is off line.
+    fn without_holder(&self, at: &str, digits: &str) -> Option<&'static str> {
+        if at != "4" || digits.len() != 4 {
+            return None;
+        }
+        let [phase, holder] = u16::from_str_radix(digits, 16).ok()?.to_be_bytes();
+        let off_line = self
+            .rows
+            .get(usize::from(holder))
+            .filter(|row| !row.on_line);
+        match (phase, off_line) {
+            (1, Some(_)) => Some("PASS"),
+            (2, Some(_)) => Some("TAKEN"),
+            _ => None,
+        }
+    }
 }
 
 fn packet_at_the_token(network: &Network) -> Option<bool> {
@@ -290,11 +314,14 @@ fn packet_at_the_token(network: &Network) -> Option<bool> {
 pub struct Watch {
     /// What a `check` meets after the last call, which changed one byte of a well-formed network.
     changed: Vec<String>,
+    /// The phase that a `step` meets with a holder off line, in a network that is well formed else,
+    /// until other bytes are lent.
+    without_holder: Option<&'static str>,
 }
 
 impl Watch {
-    /// The sights of a call, where the network was well formed before it; only of a `check` where
-    /// the byte changed before it was.
+    /// The sights of a call, where the network was well formed before it; of a `check` and a `step`
+    /// also where it was before the bytes that they meet were changed.
     pub fn sights(
         &mut self,
         words: &[&str],
@@ -305,10 +332,16 @@ impl Watch {
         if let ["check"] = words {
             return changed;
         }
+        if let ["poke" | "size" | "fresh" | "load", ..] = words {
+            self.without_holder = None;
+        }
         let Some(before) = before else {
-            return Vec::new();
+            let stepped = matches!(words, ["step", _]);
+            let phase = self.without_holder.filter(|_| stepped);
+            return phase.map(holder_off_line).into_iter().collect();
         };
         if let ["poke", at, digits] = words {
+            self.without_holder = before.without_holder(at, digits);
             let differs = after.is_none_or(|after| after.rows != before.rows);
             if differs && digits.len() == 2 {
                 self.changed = changed_byte(before, at, digits);

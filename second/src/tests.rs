@@ -601,6 +601,23 @@ fn well_formed_or_not() {
     desk.gives("check", "DONE");
 }
 
+/// Request C-20: SHAPE comes first, whatever the fault, and no call answers 11.
+#[test]
+fn a_holder_off_line_is_shape() {
+    for phase in [1, 2] {
+        let mut desk = Desk::sample();
+        desk.gives("write 0 6 24", "DONE"); // 18 hex: TXEN 0
+        desk.set(4, &[phase, 0]);
+        for fault in 0..=4 {
+            desk.gives(&format!("step {fault}"), "REFUSED 1 SHAPE");
+        }
+        desk.gives("lap 3", "REFUSED 1 SHAPE");
+        desk.set(4, &[phase, 1]);
+        desk.gives("step 4", "REFUSED 4 VALUE");
+        desk.gives("check", "DONE");
+    }
+}
+
 #[test]
 fn lengths() {
     let mut desk = Desk(Prompt::new());

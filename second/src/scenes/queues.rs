@@ -87,7 +87,7 @@ impl Player<'_> {
                 }
             }
         }
-        if self.rng.one_in(3) {
+        if self.rng.flag() {
             let sender = self.some_row();
             self.packet_tried(sender)?;
         }
@@ -109,12 +109,13 @@ impl Player<'_> {
                 let configuration = material::plain_configuration(&mut self.rng);
                 self.change_chaining(row, configuration)?;
             }
-            // Off and on again: what is not cleared is gone, and TMA is still shown.
+            // Off and on again: what is not cleared is gone, and TMA is still shown. A Clear has
+            // nothing to clear, and an Enable takes TMA away.
             _ => {
                 self.change_chaining(row, 0x38)?;
                 self.change_chaining(row, 0x38)?;
-                let command = self.rng.pick(&[0x00, 0x03]);
-                self.write(row, 1, command)?;
+                self.write(row, 1, 0x00)?;
+                self.write(row, 1, 0x03)?;
             }
         }
         self.configure(row, 0x38)
