@@ -1,5 +1,4 @@
 -- The order form: its records, IDs and names.
 pub mod Records
 pub mod Names
-pub mod SeenIds
 pub mod OrderLaws

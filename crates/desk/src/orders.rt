@@ -1,8 +1,10 @@
 // Document 01, "Order forms and the lap": the order form.
 ghost use mathlib.Core.Path.{_≡_};
 ghost use Prim.Native.Nat.{_+_, _*_, _≤_, _<_};
+ghost use lib.Dec.{eqb};
 ghost use lib.ListN.{length};
 ghost use Rattle.places.specs.Places.{onward};
+ghost use Rattle.table.specs.Folds.{seek};
 ghost use Rattle.desk.specs.Order.{recordBytes, records, recordAt, idAt, flagsOf, printables, recordFits, recordsFit, idsDiffer, orderFits, nameFrom, nameAt};
 use table::network::ROWS;
 
@@ -90,19 +92,31 @@ fn records_fit(order: &[u8], n: usize) -> bool
     true
 }
 
-// The IDs differ: each is looked up in a table of those seen before it.
+// The first record with this ID among the first n; n where there is none.
+fn record_of(order: &[u8], id: u8, n: usize) -> usize
+    requires { ⌜ recordBytes * n ≤ length (now order) ⌝ }
+    ensures { λ r. ⌜ r ≡ seek (λ k. eqb (idAt (now (order .entry)) k) id) n ⌝ }
+{
+    let mut k = 0;
+    while k < n {
+        if id_at(order, k) == id {
+            return k;
+        }
+        k += 1;
+    }
+    n
+}
+
+// The IDs differ: no record has the ID of a record before it.
 fn ids_differ(order: &[u8], n: usize) -> bool
     requires { ⌜ recordBytes * n ≤ length (now order) ⌝ }
     ensures { λ r. ⌜ r ≡ idsDiffer (now (order .entry)) n ⌝ }
 {
-    let mut seen = [false; 256];
     let mut k = 0;
     while k < n {
-        let i = id_at(order, k) as usize;
-        if seen[i] {
+        if record_of(order, id_at(order, k), k) < k {
             return false;
         }
-        seen[i] = true;
         k += 1;
     }
     true

@@ -1,13 +1,13 @@
 -- What the tests and searches over the numbers below a bound say.
 -- Assumes nothing.
-use mathlib.Core.Path.{_≡_, refl, sym, _∙_}
-use mathlib.Core.Bool.{Bool, true, false, not, _||_}
+use mathlib.Core.Path.{_≡_, refl, sym}
+use mathlib.Core.Bool.{Bool, true, false, _||_}
 use mathlib.Core.Logic.{⊎-elim}
 use Prim.Native.Nat.{ℕ, zero, suc, _+_, _≤_, _<_}
 use native.Mathlib.Nat.{not-suc-le-zero, le-of-suc-le-suc, eq-or-lt-of-le}
 use native.Mathlib.Numerals.{add-one}
 use native.Mathlib.Omega.{arith}
-use borrow.Author.Tests.{ltb-true, ltb-false, le-ltb, not-true, not-false}
+use borrow.Author.Tests.{ltb-true, ltb-false, le-ltb}
 use lib.Dec.{ltb}
 use Rattle.bits.proofs.Words.Bools.{cases, and-left, and-right, or-true, or-left, or-right, pick-of}
 use Rattle.table.specs.Folds.{every, some, seek}
@@ -17,11 +17,11 @@ clash p q = let z : _≡_ {A = ℕ} 0 1 = cc in omega arith
 
 -- ---- every
 module _ (f : ℕ → Bool) where
-  pub every-none : every f 0 ≡ true
+  every-none : every f 0 ≡ true
   unfolding every
   every-none = refl
 
-  pub every-more : (k : ℕ) → every f k ≡ true → f k ≡ true → every f (k + 1) ≡ true
+  every-more : (k : ℕ) → every f k ≡ true → f k ≡ true → every f (k + 1) ≡ true
   unfolding every
   every-more k p q = rw (add-one, p, q)
 
@@ -37,7 +37,7 @@ module _ (f : ℕ → Bool) where
   every-of zero e = refl
   every-of (suc n) e = rw (every-of n (λ k l. e k (omega arith)), e n (omega arith))
 
-  pub every-broken : (k n : ℕ) → k < n → f k ≡ false → every f n ≡ false
+  every-broken : (k n : ℕ) → k < n → f k ≡ false → every f n ≡ false
   every-broken k n h q = ⊎-elim (λ t. absurd (clash (every-at n k t h) q)) (λ t. t) (cases (every f n))
 
 -- a loop that tests f at each number below n, and stops where it fails: what holds at its head, where it stops, and at its end
@@ -52,12 +52,12 @@ module _ (f : ℕ → Bool) (n : ℕ) where
   pub passed-all : (k : ℕ) → Passed f n k → n ≤ k → true ≡ every f n
   passed-all k p l = let e : k ≡ n = omega arith in sym (rw e at (p .good))
 
-  module _ (k : ℕ) (l : k < n) (b : Bool) (e : b ≡ f k) where
-    pub passed-fails : not b ≡ true → false ≡ every f n
-    passed-fails q = sym (every-broken f k n l (sym e ∙ not-true b q))
+  module _ (k : ℕ) (l : k < n) where
+    pub passed-fails : f k ≡ false → false ≡ every f n
+    passed-fails q = sym (every-broken f k n l q)
 
-    pub passed-more : Passed f n k → not b ≡ false → Passed f n (k + 1)
-    passed-more p q = record { below = omega arith; good = every-more f k (p .good) (sym e ∙ not-false b q) }
+    pub passed-more : Passed f n k → f k ≡ true → Passed f n (k + 1)
+    passed-more p q = record { below = omega arith; good = every-more f k (p .good) q }
 
 -- ---- some
 module _ (f : ℕ → Bool) where
@@ -136,6 +136,14 @@ module _ (f : ℕ → Bool) where
   pub seek-more : (k : ℕ) → seek f k ≡ k → f k ≡ false → seek f (k + 1) ≡ k + 1
   unfolding seek
   seek-more k s t = rw (add-one, s, le-ltb k k (omega arith), t)
+
+-- a search below n tells whether there is some
+module _ (f : ℕ → Bool) (n k : ℕ) (e : k ≡ seek f n) where
+  pub some-found : k < n → some f n ≡ true
+  some-found l = some-at f n (seek f n) (seek-found f n (omega arith)) (omega arith)
+
+  pub some-missed : n ≤ k → some f n ≡ false
+  some-missed l = some-not f n (λ j b. seek-least f n j (omega arith))
 
 -- two tests that agree below n find the same
 pub seek-same : (f g : ℕ → Bool) (n : ℕ) → ((j : ℕ) → j < n → f j ≡ g j) → seek f n ≡ seek g n

@@ -1,4 +1,3 @@
 -- The rows on line, found by their IDs.
 pub mod Nodes
-pub mod Seen
 pub mod SameNodes

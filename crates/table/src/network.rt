@@ -146,21 +146,17 @@ fn rows_fit(net: &[u8], n: usize) -> bool
     true
 }
 
-// The IDs of the rows on line differ pairwise: each is looked up in a table of those seen before it.
+// The IDs of the rows on line differ pairwise: none has the ID of an on-line row before it. The rows are compared in place, since
+// a handheld has little stack (C-14).
 fn ids_differ(net: &[u8], n: usize) -> bool
     requires { ⌜ rowStart n ≤ length (now net) ⌝ }
     ensures { λ r. ⌜ r ≡ idsDiffer (now (net .entry)) n ⌝ }
 {
-    let mut seen = [false; 256];
     let mut k = 0;
     while k < n {
         let g = regs_at(net, k);
-        let i = g.id as usize;
-        if g.on_line() {
-            if seen[i] {
-                return false;
-            }
-            seen[i] = true;
+        if g.on_line() && node_of(net, g.id, k, k) < k {
+            return false;
         }
         k += 1;
     }

@@ -1,7 +1,7 @@
 -- What an order that ORDER does not refuse is like, part by part.
 -- Assumes nothing.
-use mathlib.Core.Path.{_≡_, sym}
-use mathlib.Core.Bool.{Bool, true, not}
+use mathlib.Core.Path.{_≡_, sym, ap}
+use mathlib.Core.Bool.{Bool, true, false, not}
 use mathlib.Core.List.{List, [], _∷_}
 use mathlib.Core.Logic.{⊎-elim}
 use Prim.Native.Nat.{ℕ, _%_, _≤_, _<_}
@@ -10,10 +10,10 @@ use lib.Dec.{eqb, leb, ltb, lit<}
 use lib.ListN.{length, getD}
 use borrow.Author.Tests.{eq-eqb, ltb-true, ltb-false, leb-true, not-true}
 use Rattle.bits.proofs.Words.Bools.{cases, and-five, holds}
+use Rattle.table.specs.Folds.{some, seek}
 use Rattle.table.specs.Network.{rowLimit}
-use Rattle.table.proofs.Folds.{clash, every-at, some-fails}
+use Rattle.table.proofs.Folds.{clash, every-at, some-fails, some-found, some-missed}
 use Rattle.desk.specs.Order.{recordBytes, records, recordAt, mark, idOf, flagsOf, nameOf, printables, recordFits, recordsFit, idAt, idsDiffer, orderFits}
-use Rattle.desk.proofs.Forms.SeenIds.{first}
 
 -- ---- a record by itself: its tests
 abbrev tests : List ℕ → List Bool
@@ -43,6 +43,18 @@ records-fit order n t k l = every-at (fits order) n k t l
 -- ---- their IDs
 abbrev pub Differ : List ℕ → ℕ → Type 0
 Differ order n = (j k : ℕ) → j < n → k < n → idAt order j ≡ idAt order k → j ≡ k
+
+-- record k is the first with its ID
+abbrev pub first : List ℕ → ℕ → Bool
+first order k = not (some (λ j. eqb (idAt order j) (idAt order k)) k)
+
+-- what the search for the ID of record k among the records before it says of that
+module _ (order : List ℕ) (k i : ℕ) (a : i ≡ idAt order k) (j : ℕ) (e : j ≡ seek (λ m. eqb (idAt order m) i) k) where
+  pub first-not : j < k → first order k ≡ false
+  first-not l = ap not (some-found _ k j (rw a at e) l)
+
+  pub first-is : k ≤ j → first order k ≡ true
+  first-is l = ap not (some-missed _ k j (rw a at e) l)
 
 -- no record below k has the ID of record k
 ids-below : (order : List ℕ) (n : ℕ) → idsDiffer order n ≡ true → (j k : ℕ) → j < k → k < n → idAt order j ≡ idAt order k → ⊥

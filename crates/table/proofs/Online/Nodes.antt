@@ -7,15 +7,15 @@ use Prim.Native.Nat.{ℕ, zero, suc, _+_, _≤_, _<_}
 use native.Mathlib.Omega.{arith}
 use native.Mathlib.Numerals.{add-one}
 use lib.Dec.{eqb, ltb}
-use borrow.Author.Tests.{eqb-true, eqb-false, eq-eqb, ne-eqb, not-true}
+use borrow.Author.Tests.{eqb-true, eqb-false, eq-eqb, ne-eqb, ltb-true, ltb-false, not-true}
 use Rattle.registers.specs.declared.regs.Regs.{Regs}
 use Rattle.bits.specs.Words.{pick}
 use Rattle.registers.specs.Fit.{onLine}
 use Rattle.bits.proofs.Words.Bools.{and-left, and-right, and-true, pick-of}
 use Rattle.registers.proofs.Values.SameCard.{on-line-id}
-use Rattle.table.specs.Folds.{seek}
+use Rattle.table.specs.Folds.{some, seek}
 use Rattle.table.specs.Network.{rowAt, regsAt, onLineAt, isNode, nodeOf, topId}
-use Rattle.table.proofs.Folds.{clash, seek-at-most, seek-found, seek-least}
+use Rattle.table.proofs.Folds.{clash, seek-at-most, seek-found, seek-least, seek-same, some-found, some-missed}
 
 -- ---- the highest ID
 pub topId-none : (net : List ℕ) → topId net 0 ≡ 0
@@ -82,6 +82,29 @@ module _ (net : List ℕ) (i x n : ℕ) where
   nodeOf-fails e j l ne =
       let t = seek-least (other net i x) n j (rw e l) in
       rw (ne-eqb j x ne, and-true) at t
+
+-- row k is not on line with the ID of an on-line row before it
+abbrev pub free : List ℕ → ℕ → Bool
+free net k = not (onLineAt net k && some (isNode net (regsAt net k .id)) k)
+
+-- what the code reads of row k, and the search for its ID among the rows before it, say of that
+module _ (net : List ℕ) (k : ℕ) (g : Regs) (b : Bool) (p : g ≡ regsAt net k) (q : b ≡ onLine g) where
+  pub free-off : b ≡ false → free net k ≡ true
+  free-off e = rw (sym (online-is net k g b p q) ∙ e)
+
+  module _ (e : b ≡ true) (j : ℕ) (s : j ≡ nodeOf net (g .id) k k) where
+    on : onLineAt net k ≡ true
+    on = sym (online-is net k g b p q) ∙ e
+
+    sought : j ≡ seek (isNode net (regsAt net k .id)) k
+    unfolding nodeOf
+    sought = s ∙ seek-same (other net (g .id) k) (isNode net (regsAt net k .id)) k (λ m l. rw (ne-eqb m k (λ x. omega arith), and-true, p))
+
+    pub free-not : ltb j k ≡ true → free net k ≡ false
+    free-not l = rw (on, some-found _ k j sought (ltb-true j k l))
+
+    pub free-is : ltb j k ≡ false → free net k ≡ true
+    free-is l = rw (on, some-missed _ k j sought (ltb-false j k l))
 
 -- where no row is on line with the highest ID, nobody is on line
 pub topId-nobody : (net : List ℕ) (n i : ℕ) → topId net n ≡ i → ((j : ℕ) → j < n → isNode net i j ≡ false) → i ≡ 0

@@ -16,8 +16,7 @@ use Rattle.table.specs.Network.{headerBytes, rowLimit, rows, phase, hold
 use Rattle.table.proofs.Folds.{clash, every-at, every-of, some-fails, some-not}
 use Rattle.table.proofs.Rows.Networks.{length-rowAt}
 use Rattle.table.proofs.Rows.Headers.{header-rows, header-phase, header-length}
-use Rattle.table.proofs.Online.Nodes.{node-of}
-use Rattle.table.proofs.Online.Seen.{free}
+use Rattle.table.proofs.Online.Nodes.{node-of, free}
 
 -- ---- on-line IDs
 abbrev pub Differ : List ℕ → ℕ → Type 0

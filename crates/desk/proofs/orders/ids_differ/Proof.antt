@@ -1,39 +1,43 @@
--- `desk::orders::ids_differ` meets its contract. The loop's invariant: the table holds the IDs of the records passed, which differ.
+-- `desk::orders::ids_differ` meets its contract. The loop's invariant: each record passed is the first with its ID.
 -- Assumes nothing.
-use mathlib.Core.Path.{sym}
-use Prim.Native.Nat.{_-_, _<_}
+use Prim.Native.Nat.{_-_}
 use native.Mathlib.Omega.{arith}
 use borrow.Author.Needs.{needs}
-use Rattle.desk.proofs.Forms.SeenIds.{Seen, begin, ends, twice, more}
+use Rattle.table.proofs.Folds.{Passed, passed-none, passed-all, passed-fails, passed-more}
+use Rattle.desk.specs.Order.{idsDiffer}
+use Rattle.desk.proofs.Forms.OrderLaws.{first, first-not, first-is}
 use Rattle.desk.proofs.orders.ids_differ.Statement.{statement}
 use Rattle.desk.proofs.orders.ids_differ.Tie as tie
 
 abbrev Inv-loop : tie.InvT-loop
-Inv-loop order n seen₀ k₀ seen k = Seen order n seen k
+Inv-loop order n k₀ k = Passed (first order) n k
 
 abbrev μ-loop : tie.MeasureT-loop
-μ-loop order n seen₀ k₀ seen k = n - k
+μ-loop order n k₀ k = n - k
 
 loop-holds : tie.Need-loop-holds Inv-loop μ-loop
-loop-holds c = begin _ _
+loop-holds c = passed-none _ _
 
 returns : tie.Need-returns Inv-loop μ-loop
+unfolding idsDiffer
 returns c =
-    let g = c .before in
-    let w : g .id-at .result < 256 = search needs in
-    sym (twice _ _ _ _ (g .before .before .loop .inv) (g .before .loop-test .taken) _ w (g .id-at .ensures) (c .if1 .taken))
+    let s = c .before in
+    let i = s .before in
+    passed-fails (first _) _ _ (i .before .loop-test .taken) (first-not _ _ _ (i .id-at .ensures) _ (s .record-of .ensures) (c .if1 .taken))
 
 loop-again : tie.Need-loop-again Inv-loop μ-loop
 loop-again c =
-    let g = c .before in
-    let w : g .id-at .result < 256 = search needs in
-    more _ _ _ _ (g .before .before .loop .inv) (g .before .loop-test .taken) _ w (g .id-at .ensures) (c .if1 .left)
+    let s = c .before in
+    let i = s .before in
+    let l = i .before in
+    passed-more (first _) _ _ (l .loop-test .taken) (l .before .loop .inv) (first-is _ _ _ (i .id-at .ensures) _ (s .record-of .ensures) (c .if1 .left))
 
 returns-2 : tie.Need-returns-2 Inv-loop μ-loop
-returns-2 c = sym (ends _ _ _ (c .before .loop .inv .good) (omega arith))
+unfolding idsDiffer
+returns-2 c = passed-all (first _) _ _ (c .before .loop .inv) (omega arith)
 
 pub ids-differ-spec : {M : Type 1} → statement M
 ids-differ-spec =
     tie.close
-    (tie.spec Inv-loop μ-loop loop-holds (λ c κs. search needs) (λ c. search needs) (λ c. search needs) returns
-    (λ c. search needs) (λ c. search needs) (λ c. search needs) loop-again returns-2)
+    (tie.spec Inv-loop μ-loop loop-holds (λ c κs. search needs) (λ c κs. search needs) returns (λ c. search needs)
+    (λ c. search needs) loop-again returns-2)

@@ -1,11 +1,12 @@
 -- `table::network::rows_fit` meets its contract. The loop's invariant: each row passed is well formed.
 -- Assumes nothing.
-use mathlib.Core.Path.{_∙_, ap}
+use mathlib.Core.Path.{sym, _∙_, ap}
 use mathlib.Core.Bool.{Bool}
 use mathlib.Core.List.{List}
 use Prim.Native.Nat.{ℕ, _-_}
 use native.Mathlib.Omega.{arith}
 use borrow.Author.Needs.{needs}
+use borrow.Author.Tests.{not-true, not-false}
 use Rattle.card.specs.Row.{wellFormed}
 use Rattle.table.specs.Network.{rowAt, rowsFit}
 use Rattle.table.proofs.Folds.{Passed, passed-none, passed-all, passed-fails, passed-more}
@@ -28,13 +29,13 @@ returns : tie.Need-returns Inv-loop μ-loop
 unfolding rowsFit
 returns c =
     let f = c .before in
-    passed-fails (fits _) _ _ (f .before .before .loop-test .taken) _ (f .well-formed .ensures ∙ ap wellFormed (f .before .row-at .ensures .0)) (c .if1 .taken)
+    passed-fails (fits _) _ _ (f .before .before .loop-test .taken) (sym (f .well-formed .ensures ∙ ap wellFormed (f .before .row-at .ensures .0)) ∙ not-true _ (c .if1 .taken))
 
 loop-again : tie.Need-loop-again Inv-loop μ-loop
 loop-again c =
     let f = c .before in
     let t = f .before .before in
-    passed-more (fits _) _ _ (t .loop-test .taken) _ (f .well-formed .ensures ∙ ap wellFormed (f .before .row-at .ensures .0)) (t .before .loop .inv) (c .if1 .left)
+    passed-more (fits _) _ _ (t .loop-test .taken) (t .before .loop .inv) (sym (f .well-formed .ensures ∙ ap wellFormed (f .before .row-at .ensures .0)) ∙ not-false _ (c .if1 .left))
 
 returns-2 : tie.Need-returns-2 Inv-loop μ-loop
 unfolding rowsFit
