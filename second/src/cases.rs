@@ -1,5 +1,5 @@
-//! The fixed cases of document 01, "Sums to prove and sums to run", one of request C-11, and the
-//! sweeps.
+//! The fixed cases of document 01, "Sums to prove and sums to run", two of its "differ" for every pair
+//! of rows and of records (C-14), one of request C-11, and the sweeps.
 
 use crate::model::{Network, MOST_ROWS};
 use crate::order::ORDER_MARK;
@@ -18,6 +18,14 @@ pub fn run(peer: &mut dyn Peer) -> Result<(), String> {
     let results = [
         ("one row refuses ALONE", both.follow(&one_row())),
         ("60 rows load, 61 refuse", both.follow(&sixty_and_one())),
+        (
+            "no two of 60 rows on line have one ID",
+            both.follow(&two_rows_alike()),
+        ),
+        (
+            "no two of 60 records have one ID",
+            both.follow(&two_records_alike()),
+        ),
         (
             "a packet to one's own ID gets NOANSWER",
             both.follow(&to_own_id()),
@@ -102,6 +110,44 @@ fn sixty_and_one() -> Script {
         ("fresh 61", "REFUSED 4 VALUE"),
         ("check", "REFUSED 1 SHAPE"),
     ]));
+    lines
+}
+
+/// Every pair of sixty rows on line: with one ID they are SHAPE, and are not once the later is off line.
+fn two_rows_alike() -> Script {
+    let ids: Vec<u8> = (1..=MOST_ROWS as u8).collect();
+    let mut lines = loaded(&ids, "DONE");
+    for (later, own) in ids.iter().enumerate() {
+        let row = Network::length_for(later);
+        let [id, configuration] = [row + 2, row + 6];
+        for earlier in &ids[..later] {
+            lines.extend(script(&[
+                (&format!("poke {id} {earlier:02X}"), "DONE"),
+                ("check", "REFUSED 1 SHAPE"),
+                (&format!("poke {configuration} 18"), "DONE"),
+                ("check", "DONE"),
+                (&format!("poke {configuration} 38"), "DONE"), // TXEN
+            ]));
+        }
+        lines.extend(script(&[
+            (&format!("poke {id} {own:02X}"), "DONE"),
+            ("check", "DONE"),
+        ]));
+    }
+    lines
+}
+
+/// Every pair of sixty records: with one ID they are ORDER.
+fn two_records_alike() -> Script {
+    let ids: Vec<u8> = (1..=MOST_ROWS as u8).collect();
+    let mut lines = loaded(&ids, "DONE");
+    for later in 0..ids.len() {
+        for earlier in &ids[..later] {
+            let mut alike = ids.clone();
+            alike[later] = *earlier;
+            lines.push((order_line(&alike), "REFUSED 14 ORDER".to_string()));
+        }
+    }
     lines
 }
 
