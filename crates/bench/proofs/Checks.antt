@@ -4,12 +4,10 @@ use mathlib.Core.Path.{_≡_, refl, sym, _∙_}
 use mathlib.Core.Bool.{Bool, true, not}
 use mathlib.Core.List.{List}
 use Prim.Native.Nat.{ℕ}
-use lib.ListN.{length}
 use borrow.Author.Tests.{not-false}
 use Rattle.told.specs.Numbers.{DONE, SHAPE, refuse, Smallest}
 use Rattle.told.proofs.Told.Smallest.{none-refuses, smallest}
-use Rattle.table.specs.Network.{rowStart, rows, shape}
-use Rattle.table.proofs.Shaped.Shapes.{shape-length}
+use Rattle.table.specs.Network.{shape}
 use Rattle.bench.specs.Calls.{shapeRefusals, shapeNumber, wideRefusals, wideNumber}
 use Rattle.table.proofs.Access.Rising.{place-rises}
 
@@ -27,10 +25,7 @@ module _ (net : List ℕ) (r : ℕ) where
   unfolding shapeNumber
   shape-told s e h = h ∙ rw e
 
-  well-formed : r ≡ shapeNumber net → r ≡ 0 → shape net ≡ true
+  -- a network with the number 0 is well formed
+  pub well-formed : r ≡ shapeNumber net → r ≡ 0 → shape net ≡ true
   unfolding shapeNumber
   well-formed e z = not-false (shape net) (none-refuses (shapeRefusals net) refl (sym e ∙ z) SHAPE)
-
-  -- a network with the number 0 has a header, and each of its rows
-  pub whole-network : r ≡ shapeNumber net → r ≡ 0 → length net ≡ rowStart (rows net)
-  whole-network e z = shape-length net (well-formed e z)

@@ -1,4 +1,5 @@
 -- Packets in a page: their sizes, reading out, storing, and what the line may count on.
+pub mod Places
 pub mod Sizes
 pub mod Packets
 pub mod Stored
@@ -7,3 +8,4 @@ pub mod Waiting
 pub mod Refused
 pub mod Same
 pub mod Sent
+pub mod ReadBack

@@ -1,4 +1,5 @@
 -- A row's bytes: its registers in it, its RAM, and what a call or a message leaves of it.
+pub mod Sizes
 pub mod Bytes
 pub mod Rams
 pub mod WellFormed

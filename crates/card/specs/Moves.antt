@@ -22,14 +22,14 @@ pub record OnlyAt (moves : ℕ → Bool) (r s : List ℕ) : Type 0 where
 abbrev pub writeMoves : List ℕ → ℕ → ℕ → Bool
 writeMoves r k i = among (writeChanges (regsOf r) k) i || eqb k 4 && eqb i (pointed r)
 
--- "SID, DID, COUNT byte or bytes and data go to the same offsets of the receive page, the gap is untouched": the places of a packet of that shape in page p
+-- "SID, DID, COUNT byte or bytes and data go to the same offsets of the receive page, the gap is untouched": the places of a packet of that shape in the
+-- page that starts at a
 abbrev pub inPacket : ℕ → Shape → ℕ → Bool
-inPacket p s i =
-    leb (pageAt p) i && ltb i (pageAt p + headBytes s) || leb (pageAt p + dataAt s) i && ltb i (pageAt p + pageBytes s)
+inPacket a s i = leb a i && ltb i (a + headBytes s) || leb (a + dataAt s) i && ltb i (a + pageBytes s)
 
 -- page q of the row s holds what the row r sends from page p: it is read back byte for byte, with the sender's ID at byte 0 and the DID behind it
 pub record Holds (r : List ℕ) (p : ℕ) (s : List ℕ) (q : ℕ) : Type 0 where
   pub readable : dataNumber s q ≡ 0
   pub bytes : pageData s q ≡ pageData r p
-  pub sid : getD s (pageAt q) 0 ≡ regsOf r .id
+  pub sid : getD s (pageAt s q) 0 ≡ regsOf r .id
   pub did : destination s q ≡ destination r p

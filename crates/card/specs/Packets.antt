@@ -8,6 +8,7 @@ use lib.Dec.{eqb, leb, ltb}
 use lib.ListN.{length, getD, take, drop, replicate, set}
 use Rattle.card.specs.declared.packets.Shape.{Shape}
 use Rattle.card.specs.declared.packets.Shape.the-variants.{Malformed, Short, Long}
+use Rattle.card.specs.declared.packets.Page.{Page}
 use Rattle.card.specs.declared.packets.Packet.{Packet}
 use Rattle.bits.specs.Words.{pick, clear}
 use Rattle.told.specs.Numbers.{VALUE, Refusal, _when_, told}
@@ -46,16 +47,20 @@ pageBytes Malformed = 0
 pageBytes (Short c) = 256
 pageBytes (Long c) = 512
 
--- "page = 2n + f, at RAM address 256 x page"
-abbrev pub pageAt : ℕ → ℕ
-pageAt p = registerBytes + 256 * p
+-- "page = 2n + f, at RAM address 256 x page"; "with long packets 1 and an even page": where in the row page p starts, and whether it may be long. What follows
+-- knows a page by these two alone
+unfoldable pub pageOf : List ℕ → ℕ → Page
+pageOf r p = record { at = registerBytes + 256 * p; long = eqb (regsOf r .long) 1 && clear 1 p }
+
+abbrev pub pageAt : List ℕ → ℕ → ℕ
+pageAt r p = pageOf r p .at
 
 unfoldable pub pageShape : List ℕ → ℕ → Shape
-pageShape r p = shapeOf (getD r (pageAt p + 2) 0) (getD r (pageAt p + 3) 0) (eqb (regsOf r .long) 1 && clear 1 p)
+pageShape r p = shapeOf (getD r (pageAt r p + 2) 0) (getD r (pageAt r p + 3) 0) (pageOf r p .long)
 
 -- "Byte 0 SID, 1 DID"
 unfoldable pub destination : List ℕ → ℕ → ℕ
-destination r p = getD r (pageAt p + 1) 0
+destination r p = getD r (pageAt r p + 1) 0
 
 abbrev pub malformed : Shape → Bool
 malformed Malformed = true
@@ -71,7 +76,7 @@ dataNumber r p = told (dataRefusals r p)
 
 -- "A reader asks for the data of a page of a row and gets back that stretch of the network itself": where in the row it starts
 abbrev pub dataFrom : List ℕ → ℕ → ℕ
-dataFrom r p = pageAt p + dataAt (pageShape r p)
+dataFrom r p = pageAt r p + dataAt (pageShape r p)
 
 -- its bytes; "a refusal gives a stretch of length 0"
 unfoldable pub pageData : List ℕ → ℕ → List ℕ
@@ -82,7 +87,7 @@ pageData r p =
 unfoldable pub packetAt : List ℕ → ℕ → Packet
 packetAt r p = record {
   shape = pageShape r p;
-  bytes = take (pageBytes (pageShape r p)) (drop (pageAt p) r) ++ replicate (512 - pageBytes (pageShape r p)) 0;
+  bytes = take (pageBytes (pageShape r p)) (drop (pageAt r p) r) ++ replicate (512 - pageBytes (pageShape r p)) 0;
 }
 
 -- the list xs with ys in the place of as many from the a-th on
@@ -95,13 +100,13 @@ headOf k = take (headBytes (k .shape)) (k .bytes)
 abbrev pub dataOf : Packet → List ℕ
 dataOf k = take (dataBytes (k .shape)) (drop (dataAt (k .shape)) (k .bytes))
 
--- "Storing: SID, DID, COUNT byte or bytes and data go to the same offsets of the receive page, the gap is untouched"
+-- "Storing: SID, DID, COUNT byte or bytes and data go to the same offsets of the receive page, the gap is untouched": in the page that starts at a
 unfoldable pub stored : List ℕ → ℕ → Packet → List ℕ
-stored r p k = laid (pageAt p + dataAt (k .shape)) (dataOf k) (laid (pageAt p) (headOf k) r)
+stored r a k = laid (a + dataAt (k .shape)) (dataOf k) (laid a (headOf k) r)
 
--- "own ID is first written at byte 0 of the transmit page"
+-- "own ID is first written at byte 0 of the transmit page", which starts at a
 unfoldable pub stamped : List ℕ → ℕ → List ℕ
-stamped r p = set r (pageAt p) (regsOf r .id)
+stamped r a = set r a (regsOf r .id)
 
 -- "A long packet at a row with long packets 0 .. stores nothing there"
 unfoldable pub storable : Regs → Shape → Bool

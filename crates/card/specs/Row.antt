@@ -1,10 +1,11 @@
 -- Document 01, "The saved network": a row, its register bytes, and when it is well formed.
 -- Assumes nothing.
+use mathlib.Core.Path.{_≡_}
 use mathlib.Core.Bool.{Bool, true, _&&_}
 use mathlib.Core.List.{List, [], _∷_}
 use Prim.Native.Nat.{ℕ, _+_, _-_}
 use lib.Dec.{eqb}
-use lib.ListN.{getD, take, drop}
+use lib.ListN.{length, getD, take, drop}
 use lib.Seq.{sets}
 use Rattle.registers.specs.declared.regs.Regs.{Regs}
 use Rattle.registers.specs.Registers.{ramBytes}
@@ -21,6 +22,15 @@ rowBytes = registerBytes + ramBytes
 -- "Register bytes of a row: 0-1 mark 4E 44"
 abbrev pub mark : List ℕ
 mark = 0x4e ∷ 0x44 ∷ []
+
+-- the length of the row that these bytes begin with, which its mark says: there is one kind of row, and where the mark is another, which no well-formed row has, the
+-- bytes are taken for a row of that kind
+unfoldable pub rowSize : List ℕ → ℕ
+rowSize r = rowBytes
+
+-- a row that is as long as its mark says
+abbrev pub Whole : List ℕ → Type 0
+Whole r = length r ≡ rowSize r
 
 -- the registers at their bytes
 unfoldable pub regsOf : List ℕ → Regs

@@ -3,8 +3,8 @@ ghost use mathlib.Core.Path.{_≡_};
 ghost use Prim.Native.Nat.{_+_, _-_, _≤_, _<_};
 ghost use lib.ListN.{length, take, drop};
 ghost use Rattle.places.specs.Places.{onward};
-ghost use Rattle.card.specs.Row.{rowBytes};
-ghost use Rattle.card.specs.Packets.{shapeOf, dataBytes, dataAt, headBytes, pageBytes, pageAt, malformed, pageShape, destination, dataNumber, dataFrom, pageData, packetAt, laid, stored, stamped, storable};
+ghost use Rattle.card.specs.Row.{Whole};
+ghost use Rattle.card.specs.Packets.{shapeOf, dataBytes, dataAt, headBytes, pageBytes, pageOf, pageAt, malformed, pageShape, destination, dataNumber, dataFrom, pageData, packetAt, laid, stored, stamped, storable};
 use crate::row::REGISTER_BYTES;
 use crate::row::load;
 use registers::regs::Regs;
@@ -17,6 +17,12 @@ pub enum Shape {
     Malformed,
     Short(u8),
     Long(u8),
+}
+
+// A page of a row: where in the row it starts, and whether it may be long.
+pub struct Page {
+    pub at: usize,
+    pub long: bool,
 }
 
 // A packet that was read out of a page: the page's bytes, and zeros up to 512.
@@ -104,37 +110,40 @@ impl Shape {
     }
 }
 
-// Where a page stands in the row.
-fn page_at(page: usize) -> usize
+// A page by its number: the one place that knows how long pages are, and which may be long.
+fn page_of(row: &[u8], page: usize) -> Page
+    requires { ⌜ Whole (now row) ⌝ }
     requires { ⌜ page < 4 ⌝ }
-    ensures { λ r. ⌜ r ≡ pageAt page ⌝ }
+    ensures { λ r. ⌜ (r ≡ pageOf (now (row .entry)) page) × (r .at + 256 ≤ length (now (row .entry))) ⌝ }
 {
-    REGISTER_BYTES + 256 * page
+    let g = load(row);
+    Page {
+        at: REGISTER_BYTES + 256 * page,
+        long: (g.long == 1) & (page & 1 == 0),
+    }
 }
 
 pub fn page_shape(row: &[u8], page: usize) -> Shape
-    requires { ⌜ length (now row) ≡ rowBytes ⌝ }
+    requires { ⌜ Whole (now row) ⌝ }
     requires { ⌜ page < 4 ⌝ }
     ensures { λ r. ⌜ r ≡ pageShape (now (row .entry)) page ⌝ }
 {
-    let at = page_at(page);
-    let g = load(row);
-    shape_of(row[at + 2], row[at + 3], (g.long == 1) & (page & 1 == 0))
+    let p = page_of(row, page);
+    shape_of(row[p.at + 2], row[p.at + 3], p.long)
 }
 
 // The DID byte of a page.
 pub fn destination(row: &[u8], page: usize) -> u8
-    requires { ⌜ length (now row) ≡ rowBytes ⌝ }
+    requires { ⌜ Whole (now row) ⌝ }
     requires { ⌜ page < 4 ⌝ }
     ensures { λ r. ⌜ r ≡ destination (now (row .entry)) page ⌝ }
 {
-    let at = page_at(page);
-    row[at + 1]
+    row[page_of(row, page).at + 1]
 }
 
 // The data of a page: that stretch of the row itself, of length 0 where the call below gives a number.
 pub fn page_data(row: &[u8], page: usize) -> &[u8]
-    requires { ⌜ length (now row) ≡ rowBytes ⌝ }
+    requires { ⌜ Whole (now row) ⌝ }
     ensures bytes { λ r. ⌜ now r ≡ pageData (now (row .entry)) page ⌝ }
     ensures place { λ r. ⌜ (dataNumber (now (row .entry)) page ≡ 0 → r .ptr ≡ onward (row .entry .ptr) (dataFrom (now (row .entry)) page)) ⌝ }
 {
@@ -142,14 +151,14 @@ pub fn page_data(row: &[u8], page: usize) -> &[u8]
         return &row[0..0];
     }
     let shape = page_shape(row, page);
-    let from = page_at(page) + shape.data_at();
+    let from = page_of(row, page).at + shape.data_at();
     let to = from + shape.data_bytes();
     &row[from..to]
 }
 
 // The number that belongs to the reader's answer.
 pub fn data_number(row: &[u8], page: usize) -> u8
-    requires { ⌜ length (now row) ≡ rowBytes ⌝ }
+    requires { ⌜ Whole (now row) ⌝ }
     ensures { λ r. ⌜ r ≡ dataNumber (now (row .entry)) page ⌝ }
 {
     if 3 < page {
@@ -160,13 +169,13 @@ pub fn data_number(row: &[u8], page: usize) -> u8
 
 // The packet of a page is read out of the row.
 pub fn packet_at(row: &[u8], page: usize) -> Packet
-    requires { ⌜ length (now row) ≡ rowBytes ⌝ }
+    requires { ⌜ Whole (now row) ⌝ }
     requires { ⌜ page < 4 ⌝ }
     ensures { λ r. ⌜ r ≡ packetAt (now (row .entry)) page ⌝ }
 {
     let shape = page_shape(row, page);
     let size = shape.page_bytes();
-    let at = page_at(page);
+    let at = page_of(row, page).at;
     let mut bytes = [0u8; 512];
     bytes::copy(&row[at..at + size], &mut bytes[0..size]);
     Packet { shape, bytes }
@@ -182,13 +191,14 @@ fn lay(row: &mut [u8], at: usize, bytes: &[u8], from: usize, to: usize)
 
 // A packet is stored at the same offsets of a page; the gap between its head and its data is untouched.
 pub fn store_packet(row: &mut [u8], page: usize, packet: Packet)
-    requires { ⌜ length (now row) ≡ rowBytes ⌝ }
-    requires { ⌜ pageAt page + pageBytes (packet .shape) ≤ rowBytes ⌝ }
-    ensures { λ _. ⌜ now (row .exit) ≡ stored (now (row .entry)) page packet ⌝ }
+    requires { ⌜ Whole (now row) ⌝ }
+    requires { ⌜ page < 4 ⌝ }
+    requires { ⌜ pageAt (now row) page + pageBytes (packet .shape) ≤ length (now row) ⌝ }
+    ensures { λ _. ⌜ now (row .exit) ≡ stored (now (row .entry)) (pageAt (now (row .entry)) page) packet ⌝ }
 {
     let shape = packet.shape;
     let bytes = packet.bytes;
-    let at = REGISTER_BYTES + 256 * page;
+    let at = page_of(row, page).at;
     lay(row, at, &bytes, 0, shape.head_bytes());
     let from = shape.data_at();
     lay(row, at, &bytes, from, from + shape.data_bytes());
@@ -196,11 +206,10 @@ pub fn store_packet(row: &mut [u8], page: usize, packet: Packet)
 
 // The row's own ID is written at byte 0 of a page that is to be sent.
 pub fn stamp(row: &mut [u8], page: usize)
-    requires { ⌜ length (now row) ≡ rowBytes ⌝ }
+    requires { ⌜ Whole (now row) ⌝ }
     requires { ⌜ page < 4 ⌝ }
-    ensures { λ _. ⌜ now (row .exit) ≡ stamped (now (row .entry)) page ⌝ }
+    ensures { λ _. ⌜ now (row .exit) ≡ stamped (now (row .entry)) (pageAt (now (row .entry)) page) ⌝ }
 {
-    let g = load(row);
-    let at = page_at(page);
-    row[at] = g.id;
+    let at = page_of(row, page).at;
+    row[at] = load(row).id;
 }

@@ -1,8 +1,8 @@
 // Document 01, "The saved network": a row's part of the lent network, 64 bytes of registers and then 1,024 of RAM.
 ghost use mathlib.Core.Path.{_≡_};
-ghost use Prim.Native.Nat.{_<_};
+ghost use Prim.Native.Nat.{_≤_, _<_};
 ghost use lib.ListN.{length, replicate};
-ghost use Rattle.card.specs.Row.{rowBytes, regsOf, putRegs, zeros, wellFormed};
+ghost use Rattle.card.specs.Row.{registerBytes, rowBytes, rowSize, Whole, regsOf, putRegs, zeros, wellFormed};
 ghost use Rattle.card.specs.Access.{valueRead, rowAfterRead, ramWritten, rowAfterWrite, rowAfterReset, freshRow};
 use queues::queues::Queue;
 use registers::regs::Later;
@@ -15,8 +15,15 @@ pub const ROW_BYTES: usize = 1088;
 // The fixed bytes that each row begins with.
 const MARK: [u8; 2] = *b"\x4e\x44";
 
+// The length of the row that these bytes begin with, which its mark says: there is one kind of row.
+pub fn size(row: &[u8]) -> usize
+    ensures { λ r. ⌜ r ≡ rowSize (now (row .entry)) ⌝ }
+{
+    ROW_BYTES
+}
+
 pub fn load(row: &[u8]) -> Regs
-    requires { ⌜ length (now row) ≡ rowBytes ⌝ }
+    requires { ⌜ registerBytes ≤ length (now row) ⌝ }
     ensures { λ r. ⌜ r ≡ regsOf (now (row .entry)) ⌝ }
 {
     let transmit = Queue {
@@ -55,7 +62,7 @@ pub fn load(row: &[u8]) -> Regs
 
 // The registers are written to bytes 2 to 19 and 32 to 34; no other byte changes.
 pub fn store(row: &mut [u8], g: Regs)
-    requires { ⌜ length (now row) ≡ rowBytes ⌝ }
+    requires { ⌜ registerBytes ≤ length (now row) ⌝ }
     ensures { λ _. ⌜ now (row .exit) ≡ putRegs (now (row .entry)) g ⌝ }
 {
     row[2] = g.id;
@@ -108,7 +115,7 @@ pub fn fill_zero(s: &mut [u8])
 
 // The row's own well-formedness: its mark, its registers, and zeros in the other bytes up to 63.
 pub fn well_formed(row: &[u8]) -> bool
-    requires { ⌜ length (now row) ≡ rowBytes ⌝ }
+    requires { ⌜ registerBytes ≤ length (now row) ⌝ }
     ensures { λ r. ⌜ r ≡ wellFormed (now (row .entry)) ⌝ }
 {
     let g = load(row);
@@ -128,7 +135,7 @@ pub fn create(row: &mut [u8])
 }
 
 pub fn hardware_reset(row: &mut [u8])
-    requires { ⌜ length (now row) ≡ rowBytes ⌝ }
+    requires { ⌜ registerBytes ≤ length (now row) ⌝ }
     ensures { λ _. ⌜ now (row .exit) ≡ rowAfterReset (now (row .entry)) ⌝ }
 {
     store(row, Regs::hardware_reset());
@@ -136,7 +143,7 @@ pub fn hardware_reset(row: &mut [u8])
 
 // A register of the card is read; `Regs::read_number` says whether it can be.
 pub fn read(row: &mut [u8], register: usize) -> u8
-    requires { ⌜ length (now row) ≡ rowBytes ⌝ }
+    requires { ⌜ Whole (now row) ⌝ }
     ensures value { λ r. ⌜ r ≡ valueRead (now (row .entry)) register ⌝ }
     ensures bytes { λ _. ⌜ now (row .exit) ≡ rowAfterRead (now (row .entry)) register ⌝ }
 {
@@ -159,7 +166,7 @@ fn write_ram(row: &mut [u8], register: usize, at: usize, value: u8)
 
 // A register of the card is written; `Regs::write_number` says whether it can be.
 pub fn write(row: &mut [u8], register: usize, value: u8)
-    requires { ⌜ length (now row) ≡ rowBytes ⌝ }
+    requires { ⌜ Whole (now row) ⌝ }
     ensures { λ _. ⌜ now (row .exit) ≡ rowAfterWrite (now (row .entry)) register value ⌝ }
 {
     let g = load(row);

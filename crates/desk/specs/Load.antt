@@ -7,8 +7,7 @@ use lib.Dec.{eqb}
 use lib.ListN.{length}
 use Rattle.bits.specs.Words.{pick, has}
 use Rattle.told.specs.Numbers.{ROOM, ORDER, Refusal, _when_, told}
-use Rattle.table.specs.Network.{rowStart}
-use Rattle.table.specs.Calls.{netAfterWrite, netAfterFresh}
+use Rattle.table.specs.Calls.{exactLength, netAfterWrite, netAfterFresh}
 use Rattle.desk.specs.Order.{records, recordAt, idAt, flagsOf, RECEIVE, LONG, orderFits}
 
 -- "per row in order: configuration 19, node ID, command 0D if long, command 84 if receive on, configuration 38": each is the register write itself
@@ -38,7 +37,7 @@ loadedRows order net (suc k) = loadedRow (loadedRows order net k) k (idAt order 
 -- "14 ORDER: order not as above"; "13 ROOM: .. loaded network not of exact length". The one list that does not rise: "The smallest number wins, but loading
 -- tests ORDER before ROOM"
 abbrev pub roomRefusals : List ℕ → List ℕ → List Refusal
-roomRefusals order net = ROOM when not (eqb (length net) (rowStart (records order))) ∷ []
+roomRefusals order net = ROOM when not (eqb (length net) (exactLength (records order))) ∷ []
 
 unfoldable pub loadRefusals : List ℕ → List ℕ → List Refusal
 loadRefusals order net = ORDER when not (orderFits order) ∷ roomRefusals order net

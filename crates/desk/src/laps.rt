@@ -4,14 +4,17 @@ ghost use mathlib.Core.Bool.{true};
 ghost use mathlib.Core.List.{_++_};
 ghost use Prim.Native.Nat.{_+_, _≤_};
 ghost use lib.ListN.{length, take, drop};
-ghost use Rattle.table.specs.Network.{rowLimit, LOST, rowStart, phase, shape};
+ghost use Rattle.table.specs.Rows.{rowStart};
+ghost use Rattle.table.specs.Network.{rowLimit, LOST, phase, shape};
 ghost use Rattle.desk.specs.Lap.{online, nodes, invitation, passed, invitations, takers, answers, after, lapSteps, lapNumber, lapped, netAfterLap, listAfterLap, nobody, Walks};
 use line::step::Answer;
 use line::step::step_on;
+use table::network::HEADER;
 use table::network::LOST;
 use table::network::ROWS;
 use table::network::phase;
 use table::network::regs_at;
+use table::network::row_from;
 use table::network::rows;
 use table::network::shape;
 use told::numbers::ALONE;
@@ -73,15 +76,18 @@ fn passed(answer: Answer) -> bool
 
 // The nodes on line among the first n rows.
 fn online(net: &[u8], n: usize) -> usize
-    requires { ⌜ rowStart n ≤ length (now net) ⌝ }
+    requires { ⌜ rowStart (now net) n ≤ length (now net) ⌝ }
     ensures { λ r. ⌜ (r ≡ online (now (net .entry)) n) × (r ≤ n) ⌝ }
 {
     let mut count = 0;
+    let mut a = HEADER;
     let mut k = 0;
     while k < n {
-        if regs_at(net, k).on_line() {
+        let row = row_from(net, a);
+        if card::row::load(row).on_line() {
             count += 1;
         }
+        a += row.len();
         k += 1;
     }
     count

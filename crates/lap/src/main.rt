@@ -3,10 +3,10 @@
 ghost use mathlib.Core.Path.{_≡_};
 ghost use lib.ListN.{length};
 ghost use Prim.Native.Nat.{_+_, _*_, _≤_};
-ghost use Rattle.table.specs.Network.{rowLimit, rowStart};
+ghost use Rattle.table.specs.Network.{rowLimit};
+ghost use Rattle.table.specs.Calls.{exactLength};
 ghost use Rattle.desk.specs.Lap.{lapped, netAfterLap, listAfterLap, nobody};
 ghost use Rattle.desk.specs.Order.{recordBytes};
-use card::row::ROW_BYTES;
 use desk::laps::Lapped;
 use desk::laps::Taker;
 use desk::laps::nobody;
@@ -14,13 +14,12 @@ use desk::orders::RECORD;
 use desk::orders::name_at;
 use desk::orders::records;
 use libc::STDIN_FILENO;
-use table::network::HEADER;
+use table::calls::LONGEST;
+use table::calls::exact_length;
 use table::network::ROWS;
 
 // A byte more than the longest order, so that a longer one is seen to be too long.
 const ORDER: usize = RECORD * ROWS + 1;
-
-const NET: usize = HEADER + ROW_BYTES * ROWS;
 
 // What the lap call answers, and the list that it was lent.
 struct Listed {
@@ -28,7 +27,7 @@ struct Listed {
     list: [Taker; ROWS],
 }
 
-// The lap call, lent a list of sixty with nobody in it.
+// The lap call, lent a list of ROWS entries with nobody in it.
 fn lap_list(net: &mut [u8]) -> Listed
     ensures { λ r. ⌜ (r .lapped ≡ lapped (now (net .entry)) rowLimit)
         × (now (net .exit) ≡ netAfterLap (now (net .entry)) rowLimit)
@@ -73,10 +72,10 @@ fn takers(order: &[u8], l: Listed, n: usize)
 // The order is loaded into a network of its length, which is lent, and its lap is run.
 fn answer(order: &[u8], net: &mut [u8])
     requires { ⌜ length (now order) ≤ recordBytes * rowLimit + 1 ⌝ }
-    requires { ⌜ rowStart rowLimit ≤ length (now net) ⌝ }
+    requires { ⌜ exactLength rowLimit ≤ length (now net) ⌝ }
 {
     let n = records(order);
-    let size = HEADER + ROW_BYTES * n;
+    let size = exact_length(n);
     let number = desk::loading::load(order, &mut net[0..size]);
     if number != 0 {
         refuse(number);
@@ -92,7 +91,7 @@ fn answer(order: &[u8], net: &mut [u8])
 
 fn main() {
     let mut order = [0u8; ORDER];
-    let mut net = [0u8; NET];
+    let mut net = [0u8; LONGEST];
     let read = io::read_full(STDIN_FILENO, &mut order);
     answer(&order[0..read], &mut net);
 }

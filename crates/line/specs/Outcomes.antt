@@ -20,7 +20,8 @@ use Rattle.queues.specs.Queues.{two, movedUp}
 use Rattle.card.specs.Packets.{pageAt, malformed, pageShape, destination, storable}
 use Rattle.card.specs.Moves.{inPacket}
 use Rattle.registers.specs.Events.{heard, cancelled, sent, enquired, transmitting, receiving, transmitPage, receivePage}
-use Rattle.table.specs.Network.{rows, phase, holder, LOST, PASS, TAKEN, rowAt, regsAt, nodeOf}
+use Rattle.table.specs.Rows.{rowAt}
+use Rattle.table.specs.Network.{rows, phase, holder, LOST, PASS, TAKEN, regsAt, nodeOf}
 use Rattle.line.specs.Traffic.{damaged, takes}
 use Rattle.line.specs.Step.{stepNumber}
 
@@ -64,8 +65,8 @@ abbrev pub rowMoves : List ℕ → Bool → ℕ → ℕ → Bool
 rowMoves net storing j i =
     pick (eqb (phase net) LOST) (among (at-status ∷ at-nid ∷ []) i)
     (pick (eqb (phase net) PASS) (eqb i at-diagnostic || eqb j (holder net) && eqb i at-nid)
-    (pick (eqb j (holder net)) (among (holderBytes (chaining (regsAt net j))) i || eqb i (pageAt (sentPage net)))
-    (eqb i at-diagnostic || storing && (among (storingBytes (chaining (regsAt net j))) i || inPacket (receivePage (regsAt net j)) (sentShape net) i))))
+    (pick (eqb j (holder net)) (among (holderBytes (chaining (regsAt net j))) i || eqb i (pageAt (rowAt net j) (sentPage net)))
+    (eqb i at-diagnostic || storing && (among (storingBytes (chaining (regsAt net j))) i || inPacket (pageAt (rowAt net j) (receivePage (regsAt net j))) (sentShape net) i))))
 
 -- ---- what an outcome says of the holder's TA, TMA and TTA after the step
 -- "Nothing (TA already 1). Malformed: TA = 1. DID 0, Broadcast: TA = 1 .. NoAnswer, TA = 1; .. NAK, TA stays 0; .. Delivered, TA = 1 and TMA = 1.

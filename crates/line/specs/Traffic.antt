@@ -12,10 +12,11 @@ use Rattle.line.specs.declared.traffic.Outcome.{Outcome}
 use Rattle.line.specs.declared.traffic.Outcome.the-variants.{Nothing, Malformed, Broadcast, NoAnswer, Nak, Delivered, Unacknowledged}
 use Rattle.bits.specs.Words.{pick}
 use Rattle.card.specs.Row.{regsOf}
-use Rattle.card.specs.Packets.{malformed, pageShape, destination, packetAt, stored, stamped}
+use Rattle.card.specs.Packets.{pageAt, malformed, pageShape, destination, packetAt, stored, stamped}
 use Rattle.registers.specs.Events.{recovered, heard, answered, received, cancelled, sent, enquired, transmitting, receiving, takesBroadcasts, transmitPage, receivePage}
 use Rattle.card.specs.Packets.{storable}
-use Rattle.table.specs.Network.{rows, rowAt, setRow, eachRow, onRegs, regsAt, nodeOf}
+use Rattle.table.specs.Rows.{rowAt, setRow, eachRow}
+use Rattle.table.specs.Network.{rows, onRegs, regsAt, nodeOf}
 
 -- an answer, and the network after it
 pub record Turn (A : Type 0) : Type 0 where
@@ -45,7 +46,7 @@ ackLost fault = eqb fault 2
 
 -- ---- "Storing": at each row that takes the packet, has its receiver enabled, and can store one of that shape
 abbrev pub storedRow : List ℕ → Packet → List ℕ
-storedRow r k = onRegs received (stored r (receivePage (regsOf r)) k)
+storedRow r k = onRegs received (stored r (pageAt r (receivePage (regsOf r))) k)
 
 -- row `to` takes it; and, of a broadcast, "every other awake row, on line or not, with RI = 0 and broadcasts wanted"
 abbrev pub takes : ℕ → ℕ → Bool → ℕ → Regs → Bool
@@ -60,7 +61,7 @@ carried net h to broadcast k = eachRow (carriedRow h to broadcast k) net (rows n
 
 -- "When a packet goes, a broadcast too, own ID is first written at byte 0 of the transmit page"
 abbrev pub stampedNet : List ℕ → ℕ → ℕ → List ℕ
-stampedNet net h p = setRow net h (stamped (rowAt net h) p)
+stampedNet net h p = setRow net h (stamped (rowAt net h) (pageAt (rowAt net h) p))
 
 -- a packet goes: it is heard, and stored unless "fault 1"
 unfoldable pub wentOut : List ℕ → ℕ → ℕ → ℕ → ℕ → Bool → List ℕ

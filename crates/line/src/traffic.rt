@@ -7,12 +7,12 @@ ghost use Rattle.line.specs.Traffic.{wentOut, asked, broadcastTurn, pack
 use crate::passes::Event;
 use crate::passes::carry;
 use crate::passes::happen;
-use card::row::ROW_BYTES;
-use table::network::HEADER;
 use table::network::node_of;
 use table::network::put_regs;
 use table::network::regs_at;
 use table::network::row_at;
+use table::network::row_end;
+use table::network::row_start;
 use table::network::rows;
 
 // What becomes of the holder's packet.
@@ -35,8 +35,9 @@ fn send(net: &mut [u8], h: usize, page: usize, fault: usize, to: usize, broadcas
     ensures { λ _. ⌜ now (net .exit) ≡ wentOut (now (net .entry)) h page fault to broadcast ⌝ }
 {
     let n = rows(net);
-    let a = HEADER + ROW_BYTES * h;
-    card::packets::stamp(&mut net[a..a + ROW_BYTES], page);
+    let a = row_start(net, h);
+    let e = row_end(net, a);
+    card::packets::stamp(&mut net[a..e], page);
     let packet = card::packets::packet_at(row_at(net, h), page);
     happen(net, n, Event::Message(h, false));
     if fault != 1 {

@@ -1,6 +1,6 @@
 -- No second outcome fits a contract: crate by crate.
 pub mod Same
-pub mod Sixty
+pub mod Sized
 pub mod Bits
 pub mod Told
 pub mod Queues

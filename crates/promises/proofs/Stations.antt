@@ -24,6 +24,7 @@ use Rattle.table.proofs.Online.Nodes.{node-of, node-online, node-id, nodeOf-fou
 use Rattle.table.proofs.Shaped.Shapes.{shape-ids}
 use Rattle.table.proofs.Shaped.Alike.{bytes-rams}
 use Rattle.table.proofs.Access.Placed.{data-there, number-there}
+use Rattle.table.specs.Rows.{rowAt}
 use Rattle.line.specs.declared.traffic.Outcome.the-variants.{Broadcast, Delivered}
 use Rattle.line.specs.Step.{step}
 use Rattle.line.specs.Outcomes.{sentPage, sentTo, addressee, stores, holderBytes, rowMoves}
@@ -49,13 +50,13 @@ none-of i h [] e = refl
 none-of i h (a ∷ l) e =
     rw (beyond i a h (ltb-true a registerBytes (and-left (ltb a registerBytes) (inRegisters l) e)), none-of i h l (and-right (ltb a registerBytes) (inRegisters l) e))
 
-module _ (net : List ℕ) (j i : ℕ) (h : registerBytes ≤ i) (own : j ≡ holder net → i ≡ pageAt (sentPage net) → ⊥) where
+module _ (net : List ℕ) (j i : ℕ) (h : registerBytes ≤ i) (own : j ≡ holder net → i ≡ pageAt (rowAt net j) (sentPage net) → ⊥) where
   still : rowMoves net false j i ≡ false
   still =
       pick-of (λ (x : Bool). x ≡ false) (eqb (phase net) LOST) (λ _. rw (beyond i at-status h (omega arith), beyond i at-nid h (omega arith)))
       (λ _. pick-of (λ (x : Bool). x ≡ false) (eqb (phase net) PASS) (λ _. rw (beyond i at-diagnostic h (omega arith), beyond i at-nid h (omega arith)) (none (eqb j (holder net))))
       (λ _. pick-of (λ (x : Bool). x ≡ false) (eqb j (holder net))
-      (λ e. rw (none-of i h (holderBytes (chaining (regsAt net j))) (low (chaining (regsAt net j)))) (ne-eqb i (pageAt (sentPage net)) (own (eqb-true j (holder net) e))))
+      (λ e. rw (none-of i h (holderBytes (chaining (regsAt net j))) (low (chaining (regsAt net j)))) (ne-eqb i (pageAt (rowAt net j) (sentPage net)) (own (eqb-true j (holder net) e))))
       (λ _. rw (beyond i at-diagnostic h (omega arith)))))
     where
       low : (c : Bool) → inRegisters (holderBytes c) ≡ true

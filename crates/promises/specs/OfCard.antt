@@ -14,6 +14,7 @@ pub record OfCard : Type 0 where
   pub packet-at : Fixed packets.packet_at.ended packets.packet_at.Reads.Learnt
   pub store-packet : Fixed packets.store_packet.ended packets.store_packet.Reads.Learnt
   pub stamp : Fixed packets.stamp.ended packets.stamp.Reads.Learnt
+  pub size : Once row.size.ended row.size.Reads.Asked row.size.Reads.Learnt
   pub load : Fixed row.load.ended row.load.Reads.Learnt
   pub store : Fixed row.store.ended row.store.Reads.Learnt
   pub all-zero : Once row.all_zero.ended row.all_zero.Reads.Asked row.all_zero.Reads.Learnt

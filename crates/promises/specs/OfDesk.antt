@@ -7,7 +7,7 @@ use Rattle.desk.proofs.laps as laps
 use Rattle.promises.specs.Once.{OnceBy, Once, SamePart}
 use Rattle.promises.specs.LapReads as lap
 
--- `walk` hands back a list of sixty, and that there are sixty is in its type alone: Ok is what the type says
+-- `walk` hands back a list of rowLimit entries, and that there are so many is in its type alone: Ok is what the type says
 pub record OfDesk : Type 0 where
   pub records : Once orders.records.ended orders.records.Reads.Asked orders.records.Reads.Learnt
   pub name-at : OnceBy orders.name_at.ended (λ κs. SamePart) orders.name_at.Reads.Asked orders.name_at.Reads.Learnt

@@ -10,12 +10,16 @@ pub record OfTable : Type 0 where
   pub rows : Fixed network.rows.ended network.rows.Reads.Learnt
   pub phase : Fixed network.phase.ended network.phase.Reads.Learnt
   pub holder : Fixed network.holder.ended network.holder.Reads.Learnt
+  pub row-start : Once network.row_start.ended network.row_start.Reads.Asked network.row_start.Reads.Learnt
+  pub row-end : Fixed network.row_end.ended network.row_end.Reads.Learnt
+  pub row-from : FixedBy network.row_from.ended (λ κs. SamePart) network.row_from.Reads.Learnt
   pub row-at : FixedBy network.row_at.ended (λ κs. SamePart) network.row_at.Reads.Learnt
   pub regs-at : Fixed network.regs_at.ended network.regs_at.Reads.Learnt
   pub put-regs : Fixed network.put_regs.ended network.put_regs.Reads.Learnt
   pub turn : Fixed network.turn.ended network.turn.Reads.Learnt
   pub node-of : Fixed network.node_of.ended network.node_of.Reads.Learnt
   pub top-id : Fixed network.top_id.ended network.top_id.Reads.Learnt
+  pub exact-length : Fixed calls.exact_length.ended calls.exact_length.Reads.Learnt
   pub fresh : Once calls.fresh.ended calls.fresh.Reads.Asked calls.fresh.Reads.Learnt
   pub place-number : Once calls.place_number.ended calls.place_number.Reads.Asked calls.place_number.Reads.Learnt
   pub read : Once calls.read.ended calls.read.Reads.Asked calls.read.Reads.Learnt

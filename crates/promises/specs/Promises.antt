@@ -15,7 +15,8 @@ use Rattle.card.specs.Packets.{shapeOf, dataBytes, CanBeSent, malformed}
 use Rattle.card.specs.Moves.{OnlyAt}
 use Rattle.line.specs.declared.traffic.Outcome.{Outcome}
 use Rattle.line.specs.declared.step.Answer.the-variants.{Held}
-use Rattle.table.specs.Network.{headerBytes, rows, phase, holder, Bytes, TAKEN, rowAt, regsAt, shape, SameFrame, OnlyRow, LOST, onLineAt}
+use Rattle.table.specs.Rows.{headerBytes, rowAt}
+use Rattle.table.specs.Network.{rows, phase, holder, Bytes, TAKEN, regsAt, shape, SameFrame, OnlyRow, LOST, onLineAt}
 use Rattle.table.specs.Calls.{placeRefusals, placeNumber, netReadRefusals, netReading, netAfterRead, netWriteRefusals, netWriteNumber, netWriteMoves, netAfterWrite, resetMoves, netAfterReset, timerRefusals, timerNumber, netAfterTimer, netInterrupt, netData, netDataRefusals, netDataNumber, freshRefusals, freshNumber, netAfterFresh}
 use Rattle.line.specs.Step.{stepRefusals, step, answerNumber, answerValue, highest}
 use Rattle.line.specs.Outcomes.{stores, rowMoves, HolderLeft, PlainLeft, meets}

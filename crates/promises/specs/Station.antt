@@ -12,7 +12,8 @@ use Rattle.card.specs.Row.{registerBytes}
 use Rattle.card.specs.Packets.{pageAt, storable}
 use Rattle.card.specs.Moves.{Holds}
 use Rattle.table.specs.Folds.{seek}
-use Rattle.table.specs.Network.{Bytes, rows, holder, rowAt, regsAt, isNode, shape, SameNodes}
+use Rattle.table.specs.Rows.{rowAt}
+use Rattle.table.specs.Network.{Bytes, rows, holder, regsAt, isNode, shape, SameNodes}
 use Rattle.table.specs.Calls.{netData, netDataNumber}
 use Rattle.line.specs.declared.traffic.Outcome.the-variants.{Broadcast, Delivered}
 use Rattle.line.specs.declared.step.Answer.the-variants.{Held}
@@ -36,7 +37,7 @@ pub record Stored (net new : List ℕ) (j : ℕ) : Type 0 where
 
 -- its RAM is as it was, but for byte 0 of the page that the holder sends
 abbrev pub RamKept : List ℕ → List ℕ → ℕ → Type 0
-RamKept net new j = (i : ℕ) → registerBytes ≤ i → (j ≡ holder net → i ≡ pageAt (sentPage net) → ⊥) → getD (rowAt new j) i 0 ≡ getD (rowAt net j) i 0
+RamKept net new j = (i : ℕ) → registerBytes ≤ i → (j ≡ holder net → i ≡ pageAt (rowAt net j) (sentPage net) → ⊥) → getD (rowAt new j) i 0 ≡ getD (rowAt net j) i 0
 
 -- ---- any step: a row stores the packet, or keeps its RAM
 abbrev pub StoredOrKept : Type 0

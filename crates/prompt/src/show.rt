@@ -1,8 +1,10 @@
 // A table of the rows, for a person.
 ghost use Prim.Native.Nat.{_≤_};
 ghost use lib.ListN.{length};
+ghost use mathlib.Core.Bool.{true};
 ghost use mathlib.Core.Path.{_≡_};
-ghost use Rattle.table.specs.Network.{rowStart, rows};
+ghost use Rattle.table.specs.Rows.{rowStart};
+ghost use Rattle.table.specs.Network.{shape};
 use bits::choice::choose;
 use bits::flags::BROADCASTS;
 use bits::flags::POR;
@@ -17,9 +19,10 @@ use print::gather::end;
 use print::gather::number;
 use print::gather::text;
 use registers::regs::Regs;
+use table::network::HEADER;
 use table::network::LOST;
 use table::network::phase;
-use table::network::regs_at;
+use table::network::row_from;
 use table::network::rows;
 use table::network::wide;
 use words::words::part;
@@ -111,16 +114,19 @@ fn holder(out: &mut [u8; ROOM], phase: u8, row: usize) -> usize {
 
 // A line for each of the first n rows.
 fn table(out: &mut [u8; ROOM], net: &[u8], n: usize)
-    requires { ⌜ rowStart n ≤ length (now net) ⌝ }
+    requires { ⌜ rowStart (now net) n ≤ length (now net) ⌝ }
 {
+    let mut a = HEADER;
     for k in 0..n {
-        row(out, k, regs_at(net, k));
+        let card = row_from(net, a);
+        row(out, k, card::row::load(card));
+        a += card.len();
     }
 }
 
-// The rows of a network that has each of them whole.
+// The rows of a network that SHAPE does not refuse.
 pub fn show(out: &mut [u8; ROOM], net: &[u8])
-    requires { ⌜ length (now net) ≡ rowStart (rows (now net)) ⌝ }
+    requires { ⌜ shape (now net) ≡ true ⌝ }
 {
     let n = text(out, 0, b" ROW  ID NID  LINE  TX   RX  FLAGS");
     end(out, n);

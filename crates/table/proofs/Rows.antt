@@ -1,5 +1,9 @@
--- Where a row stands, the network with another row, and a pass over the rows.
+-- Where a row stands, the network with other rows, and a pass over the rows.
+pub mod View
+pub mod Starts
+pub mod WithRows
+pub mod Order
+pub mod Passes
+pub mod Walks
 pub mod Networks
-pub mod EachRow
-pub mod Loops
 pub mod Headers

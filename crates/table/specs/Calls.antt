@@ -2,7 +2,7 @@
 -- Assumes nothing.
 use mathlib.Core.Bool.{Bool, false, not, _&&_, _||_}
 use mathlib.Core.List.{List, [], _∷_, _++_}
-use Prim.Native.Nat.{ℕ, zero, suc, _+_}
+use Prim.Native.Nat.{ℕ, _+_, _*_}
 use lib.Dec.{eqb, leb, ltb}
 use lib.ListN.{length, replicate}
 use Rattle.table.specs.declared.calls.Reading.{Reading}
@@ -14,11 +14,13 @@ use Rattle.registers.specs.Registers.{interrupt, afterWrite}
 use Rattle.registers.specs.Layout.{at-diagnostic, resetBytes}
 use Rattle.registers.specs.Sides.{chaining}
 use Rattle.registers.specs.Refusals.{readRefusals, writeRefusals}
+use Rattle.card.specs.Row.{rowBytes}
 use Rattle.card.specs.Access.{valueRead, rowAfterRead, rowAfterWrite, rowAfterReset, freshRow}
 use Rattle.card.specs.Moves.{writeMoves}
 use Rattle.card.specs.Packets.{dataRefusals, dataFrom, pageData}
 use Rattle.registers.specs.Events.{burst}
-use Rattle.table.specs.Network.{mark, rowLimit, rowStart, rows, phase, holder, LOST, turned, rowAt, setRow, onRegs, regsAt, onLineAt, nodeOf, shape}
+use Rattle.table.specs.Rows.{headerBytes, rowStart, rowAt, setRow, joined}
+use Rattle.table.specs.Network.{mark, rowLimit, rows, phase, holder, LOST, turned, onRegs, regsAt, onLineAt, nodeOf, shape}
 
 -- "1 SHAPE", "2 ROW: row not below n": the refusals of every call to a row, before its own
 unfoldable pub placeRefusals : List ℕ → ℕ → List Refusal
@@ -104,7 +106,7 @@ netInterrupt net k =
 -- ---- the page reader
 -- "A reader asks for the data of a page of a row and gets back that stretch of the network itself": where in the network it starts
 abbrev pub netDataFrom : List ℕ → ℕ → ℕ → ℕ
-netDataFrom net k p = rowStart k + dataFrom (rowAt net k) p
+netDataFrom net k p = rowStart net k + dataFrom (rowAt net k) p
 
 -- its bytes; "a refusal gives a stretch of length 0"
 unfoldable pub netData : List ℕ → ℕ → ℕ → List ℕ
@@ -118,15 +120,18 @@ netDataNumber net k p = told (netDataRefusals net k p)
 
 -- ---- "The fresh call fills a lent network of exact length for n rows: hardware reset everywhere, RAM zero, LOST"
 unfoldable pub freshRows : ℕ → List ℕ
-freshRows zero = []
-freshRows (suc n) = freshRows n ++ freshRow
+freshRows n = joined (λ k. freshRow) 0 n []
 
 unfoldable pub freshNet : ℕ → List ℕ
 freshNet n = mark ++ (1 ∷ n ∷ replicate 12 0) ++ freshRows n
 
+-- the exact length for n rows
+unfoldable pub exactLength : ℕ → ℕ
+exactLength n = headerBytes + rowBytes * n
+
 -- "4 VALUE: fresh n not 1-60"; "13 ROOM: fresh .. network not of exact length"
 unfoldable pub freshRefusals : List ℕ → ℕ → List Refusal
-freshRefusals net n = VALUE when (eqb n 0 || ltb rowLimit n) ∷ ROOM when not (eqb (length net) (rowStart n)) ∷ []
+freshRefusals net n = VALUE when (eqb n 0 || ltb rowLimit n) ∷ ROOM when not (eqb (length net) (exactLength n)) ∷ []
 
 unfoldable pub freshNumber : List ℕ → ℕ → ℕ
 freshNumber net n = told (freshRefusals net n)

@@ -1,3 +1,4 @@
 pub mod Folds
+pub mod Rows
 pub mod Network
 pub mod Calls

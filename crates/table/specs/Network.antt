@@ -2,22 +2,20 @@
 -- Assumes nothing.
 use mathlib.Core.Path.{_≡_}
 use mathlib.Core.Bool.{Bool, true, not, _&&_}
-use mathlib.Core.List.{List, [], _∷_, _++_}
-use Prim.Native.Nat.{ℕ, zero, suc, _+_, _*_, _<_}
+use mathlib.Core.List.{List, [], _∷_}
+use Prim.Native.Nat.{ℕ, zero, suc, _<_}
 use lib.Dec.{eqb, leb, ltb}
 use lib.ListN.{length, getD, set, take, drop}
 use Rattle.registers.specs.declared.regs.Regs.{Regs}
 use Rattle.bits.specs.Words.{pick, all}
-use Rattle.card.specs.Row.{rowBytes, regsOf, putRegs, zeros, wellFormed}
+use Rattle.card.specs.Row.{regsOf, putRegs, zeros, wellFormed}
 use Rattle.registers.specs.Fit.{onLine}
 use Rattle.card.specs.Moves.{OnlyAt}
 use Rattle.table.specs.Folds.{every, some, seek}
+use Rattle.table.specs.Rows.{headerBytes, rowStart, rowAt}
 
 -- "Header, 16 bytes: mark 41 4E hex; byte 2 = 1; byte 3 = rows n, 1 to 60; byte 4 = phase (0 LOST, 1 PASS, 2 TAKEN); byte 5 = holder row,
 -- 0 in LOST; 6-15 zero."
-abbrev pub headerBytes : ℕ
-headerBytes = 16
-
 abbrev pub mark : List ℕ
 mark = 0x41 ∷ 0x4e ∷ []
 
@@ -50,23 +48,9 @@ Bytes net = (i : ℕ) → getD net i 0 < 256
 unfoldable pub turned : List ℕ → ℕ → ℕ → List ℕ
 turned net p h = set (set net 4 p) 5 h
 
--- "n rows of 1,088 bytes": where row k starts, its part, and the network with another row k
-abbrev pub rowStart : ℕ → ℕ
-rowStart k = headerBytes + rowBytes * k
-
-unfoldable pub rowAt : List ℕ → ℕ → List ℕ
-rowAt net k = take rowBytes (drop (rowStart k) net)
-
-unfoldable pub setRow : List ℕ → ℕ → List ℕ → List ℕ
-setRow net k r = take (rowStart k) net ++ (r ++ drop rowBytes (drop (rowStart k) net))
-
--- a function done to a row's registers, and a function of a row and its number done to each of the first n rows
+-- a function done to a row's registers
 abbrev pub onRegs : (Regs → Regs) → List ℕ → List ℕ
 onRegs f r = putRegs r (f (regsOf r))
-
-unfoldable pub eachRow : (ℕ → List ℕ → List ℕ) → List ℕ → ℕ → List ℕ
-eachRow f net zero = net
-eachRow f net (suc k) = setRow (eachRow f net k) k (f k (rowAt (eachRow f net k) k))
 
 abbrev pub regsAt : List ℕ → ℕ → Regs
 regsAt net k = regsOf (rowAt net k)
@@ -92,7 +76,7 @@ unfoldable pub headerFits : List ℕ → Bool
 headerFits net =
     all
     (eqb (getD net 0 0) (getD mark 0 0) ∷ eqb (getD net 1 0) (getD mark 1 0) ∷ eqb (getD net 2 0) 1 ∷ ltb 0 (rows net) ∷ leb (rows net) rowLimit
-    ∷ ltb (phase net) 3 ∷ zeros (take 10 (drop 6 net)) ∷ eqb (length net) (rowStart (rows net)) ∷ [])
+    ∷ ltb (phase net) 3 ∷ zeros (take 10 (drop 6 net)) ∷ eqb (length net) (rowStart net (rows net)) ∷ [])
 
 -- each row is well formed by itself
 unfoldable pub rowsFit : List ℕ → ℕ → Bool

@@ -2,13 +2,13 @@
 ghost use mathlib.Core.Path.{_≡_};
 ghost use mathlib.Core.Bool.{true};
 ghost use mathlib.Core.List.{_∷_, _++_};
-ghost use Prim.Native.Nat.{_+_, _≤_, _<_};
-ghost use lib.ListN.{length, drop, replicate};
+ghost use Prim.Native.Nat.{suc, _≤_, _<_};
+ghost use lib.ListN.{length, take, drop, replicate};
 ghost use Rattle.places.specs.Places.{onward};
-ghost use Rattle.card.specs.Row.{rowBytes};
 ghost use Rattle.card.specs.Access.{freshRow};
-ghost use Rattle.table.specs.Network.{headerBytes, mark, rowStart, rows, eachRow, shape};
-ghost use Rattle.table.specs.Calls.{placeNumber, netReadNumber, netReading, netAfterRead, settled, netWriteNumber, netAfterWrite, netAfterReset, timerNumber, netAfterTimer, netInterrupt, netDataFrom, netData, netDataNumber, freshNumber, netAfterFresh};
+ghost use Rattle.table.specs.Rows.{headerBytes, rowStart, joined};
+ghost use Rattle.table.specs.Network.{mark, rows, shape};
+ghost use Rattle.table.specs.Calls.{placeNumber, netReadNumber, netReading, netAfterRead, settled, netWriteNumber, netAfterWrite, netAfterReset, timerNumber, netAfterTimer, netInterrupt, netDataFrom, netData, netDataNumber, exactLength, freshNumber, netAfterFresh};
 use crate::network::HEADER;
 use crate::network::LOST;
 use crate::network::MARK;
@@ -19,6 +19,8 @@ use crate::network::phase;
 use crate::network::put_regs;
 use crate::network::regs_at;
 use crate::network::row_at;
+use crate::network::row_end;
+use crate::network::row_start;
 use crate::network::rows;
 use crate::network::shape;
 use crate::network::turn;
@@ -74,8 +76,9 @@ pub fn read(net: &mut [u8], row: usize, register: usize) -> Reading
     if number != DONE {
         return Reading { number, value: 0 };
     }
-    let a = HEADER + ROW_BYTES * row;
-    let value = card::row::read(&mut net[a..a + ROW_BYTES], register);
+    let a = row_start(net, row);
+    let e = row_end(net, a);
+    let value = card::row::read(&mut net[a..e], register);
     Reading {
         number: DONE,
         value,
@@ -85,7 +88,7 @@ pub fn read(net: &mut [u8], row: usize, register: usize) -> Reading
 // Row k, as a call has left it, was on line before the call or was not: the row that comes on line bursts, and the
 // line is lost with it, or with a holder that goes off line.
 fn settle(net: &mut [u8], k: usize, was: bool)
-    requires { ⌜ rowStart k + rowBytes ≤ length (now net) ⌝ }
+    requires { ⌜ rowStart (now net) (suc k) ≤ length (now net) ⌝ }
     ensures { λ _. ⌜ now (net .exit) ≡ settled (now (net .entry)) k was ⌝ }
 {
     let g = regs_at(net, k);
@@ -117,8 +120,9 @@ pub fn write_on(net: &mut [u8], row: usize, register: usize, value: u8) -> u8
     if number != DONE {
         return number;
     }
-    let a = HEADER + ROW_BYTES * row;
-    card::row::write(&mut net[a..a + ROW_BYTES], register, value);
+    let a = row_start(net, row);
+    let e = row_end(net, a);
+    card::row::write(&mut net[a..e], register, value);
     settle(net, row, g.on_line());
     DONE
 }
@@ -145,8 +149,9 @@ pub fn reset(net: &mut [u8], row: usize) -> u8
         return number;
     }
     let was = regs_at(net, row).on_line();
-    let a = HEADER + ROW_BYTES * row;
-    card::row::hardware_reset(&mut net[a..a + ROW_BYTES]);
+    let a = row_start(net, row);
+    let e = row_end(net, a);
+    card::row::hardware_reset(&mut net[a..e]);
     settle(net, row, was);
     DONE
 }
@@ -229,6 +234,17 @@ pub fn fresh(net: &mut [u8], n: usize) -> u8
     DONE
 }
 
+// The length of a network of as many rows as there may be.
+pub const LONGEST: usize = HEADER + ROW_BYTES * ROWS;
+
+// The length of a network of n rows as the fresh call makes them.
+pub fn exact_length(n: usize) -> usize
+    requires { ⌜ n < 256 ⌝ }
+    ensures { λ r. ⌜ r ≡ exactLength n ⌝ }
+{
+    HEADER + ROW_BYTES * n
+}
+
 // VALUE and ROOM.
 fn fresh_number(net: &[u8], n: usize) -> u8
     ensures { λ r. ⌜ r ≡ freshNumber (now (net .entry)) n ⌝ }
@@ -236,7 +252,7 @@ fn fresh_number(net: &[u8], n: usize) -> u8
     if (n == 0) | (ROWS < n) {
         return VALUE;
     }
-    refuse(DONE, ROOM, net.len() != HEADER + ROW_BYTES * n)
+    refuse(DONE, ROOM, net.len() != exact_length(n))
 }
 
 // The header of a network of n rows in LOST.
@@ -252,14 +268,17 @@ fn write_header(net: &mut [u8], n: usize)
     net[3] = n as u8;
 }
 
+// Rows are laid over the bytes one after the other: they have no marks yet by which a walk could find them.
 fn create_rows(net: &mut [u8], n: usize)
-    requires { ⌜ rowStart n ≤ length (now net) ⌝ }
-    ensures { λ _. ⌜ now (net .exit) ≡ eachRow (λ k r. freshRow) (now (net .entry)) n ⌝ }
+    requires { ⌜ exactLength n ≤ length (now net) ⌝ }
+    ensures { λ _. ⌜ now (net .exit) ≡ take headerBytes (now (net .entry)) ++ joined (λ k. freshRow) 0 n (drop (exactLength n) (now (net .entry))) ⌝ }
 {
+    let mut a = HEADER;
     let mut k = 0;
     while k < n {
-        let a = HEADER + ROW_BYTES * k;
-        card::row::create(&mut net[a..a + ROW_BYTES]);
+        let e = a + ROW_BYTES;
+        card::row::create(&mut net[a..e]);
+        a = e;
         k += 1;
     }
 }

@@ -1,11 +1,11 @@
-// Document 01, "The saved network": the header, a row's part, and the test SHAPE.
+// Document 01, "The saved network": the header, a row's part, and the test SHAPE. A row starts where the one before it ends.
 ghost use mathlib.Core.Path.{_≡_};
-ghost use Prim.Native.Nat.{_+_, _≤_, _<_};
-ghost use lib.ListN.{length};
+ghost use Prim.Native.Nat.{suc, _+_, _≤_, _<_};
+ghost use lib.ListN.{length, take, drop};
 ghost use Rattle.places.specs.Places.{onward};
-ghost use Rattle.card.specs.Row.{rowBytes, putRegs};
-ghost use Rattle.table.specs.Network.{headerBytes, rowStart, rows, phase, holder, turned, rowAt, setRow, regsAt, nodeOf, topId, headerFits, rowsFit, idsDiffer, holderFits, shape};
-use card::row::ROW_BYTES;
+ghost use Rattle.card.specs.Row.{registerBytes, rowSize, Whole, putRegs};
+ghost use Rattle.table.specs.Rows.{headerBytes, rowStart, rowAt, setRow, walked};
+ghost use Rattle.table.specs.Network.{rows, phase, holder, turned, regsAt, nodeOf, topId, headerFits, rowsFit, idsDiffer, holderFits, shape};
 use registers::regs::Regs;
 
 pub const HEADER: usize = 16;
@@ -50,19 +50,58 @@ pub fn holder(net: &[u8]) -> usize
     wide(net[5])
 }
 
+// Where row k starts, found by walking over the rows before it, each as long as its mark says; 0 where the walk leaves the
+// bytes, which may be any.
+pub fn row_start(net: &[u8], k: usize) -> usize
+    ensures { λ r. ⌜ r ≡ walked (now (net .entry)) k ⌝ }
+{
+    if net.len() < HEADER {
+        return 0;
+    }
+    let mut a = HEADER;
+    let mut i = 0;
+    while i < k {
+        let size = card::row::size(&net[a..net.len()]);
+        if net.len() - a < size {
+            return 0;
+        }
+        a += size;
+        i += 1;
+    }
+    a
+}
+
+// Where the row ends that starts at a.
+pub fn row_end(net: &[u8], a: usize) -> usize
+    requires { ⌜ a + rowSize (drop a (now net)) ≤ length (now net) ⌝ }
+    ensures { λ r. ⌜ (r ≡ a + rowSize (drop a (now (net .entry)))) × (r ≤ length (now (net .entry))) ⌝ }
+{
+    a + card::row::size(&net[a..net.len()])
+}
+
+// The row that starts at a. Whoever goes over all rows carries a along, and walks once.
+pub fn row_from(net: &[u8], a: usize) -> &[u8]
+    requires { ⌜ a + rowSize (drop a (now net)) ≤ length (now net) ⌝ }
+    ensures bytes { λ r. ⌜ now r ≡ take (rowSize (drop a (now (net .entry)))) (drop a (now (net .entry))) ⌝ }
+    ensures size { λ r. ⌜ (Whole (now r)) × (registerBytes ≤ length (now r)) × (a + length (now r) ≤ length (now (net .entry))) ⌝ }
+    ensures place { λ r. ⌜ r .ptr ≡ onward (net .entry .ptr) a ⌝ }
+{
+    let e = row_end(net, a);
+    &net[a..e]
+}
+
 // A row's part of the network.
 pub fn row_at(net: &[u8], k: usize) -> &[u8]
-    requires { ⌜ rowStart k + rowBytes ≤ length (now net) ⌝ }
+    requires { ⌜ rowStart (now net) (suc k) ≤ length (now net) ⌝ }
     ensures bytes { λ r. ⌜ now r ≡ rowAt (now (net .entry)) k ⌝ }
-    ensures size { λ r. ⌜ length (now r) ≡ rowBytes ⌝ }
-    ensures place { λ r. ⌜ r .ptr ≡ onward (net .entry .ptr) (rowStart k) ⌝ }
+    ensures size { λ r. ⌜ (Whole (now r)) × (registerBytes ≤ length (now r)) ⌝ }
+    ensures place { λ r. ⌜ r .ptr ≡ onward (net .entry .ptr) (rowStart (now (net .entry)) k) ⌝ }
 {
-    let a = HEADER + ROW_BYTES * k;
-    &net[a..a + ROW_BYTES]
+    row_from(net, row_start(net, k))
 }
 
 pub fn regs_at(net: &[u8], k: usize) -> Regs
-    requires { ⌜ rowStart k + rowBytes ≤ length (now net) ⌝ }
+    requires { ⌜ rowStart (now net) (suc k) ≤ length (now net) ⌝ }
     ensures { λ r. ⌜ r ≡ regsAt (now (net .entry)) k ⌝ }
 {
     card::row::load(row_at(net, k))
@@ -70,11 +109,12 @@ pub fn regs_at(net: &[u8], k: usize) -> Regs
 
 // One row is given other registers.
 pub fn put_regs(net: &mut [u8], k: usize, g: Regs)
-    requires { ⌜ rowStart k + rowBytes ≤ length (now net) ⌝ }
+    requires { ⌜ rowStart (now net) (suc k) ≤ length (now net) ⌝ }
     ensures { λ _. ⌜ now (net .exit) ≡ setRow (now (net .entry)) k (putRegs (rowAt (now (net .entry)) k) g) ⌝ }
 {
-    let a = HEADER + ROW_BYTES * k;
-    card::row::store(&mut net[a..a + ROW_BYTES], g);
+    let a = row_start(net, k);
+    let e = row_end(net, a);
+    card::row::store(&mut net[a..e], g);
 }
 
 // The phase and the holder are written.
@@ -88,15 +128,18 @@ pub fn turn(net: &mut [u8], phase: u8, holder: u8)
 
 // The on-line row with this ID, other than row `except`, among the first n; n where there is none.
 pub fn node_of(net: &[u8], id: u8, except: usize, n: usize) -> usize
-    requires { ⌜ rowStart n ≤ length (now net) ⌝ }
+    requires { ⌜ rowStart (now net) n ≤ length (now net) ⌝ }
     ensures { λ r. ⌜ r ≡ nodeOf (now (net .entry)) id except n ⌝ }
 {
+    let mut a = HEADER;
     let mut k = 0;
     while k < n {
-        let g = regs_at(net, k);
+        let row = row_from(net, a);
+        let g = card::row::load(row);
         if g.on_line() & (g.id == id) & (k != except) {
             return k;
         }
+        a += row.len();
         k += 1;
     }
     n
@@ -104,14 +147,17 @@ pub fn node_of(net: &[u8], id: u8, except: usize, n: usize) -> usize
 
 // The highest ID on line; 0 where nobody is.
 pub fn top_id(net: &[u8], n: usize) -> u8
-    requires { ⌜ rowStart n ≤ length (now net) ⌝ }
+    requires { ⌜ rowStart (now net) n ≤ length (now net) ⌝ }
     ensures { λ r. ⌜ r ≡ topId (now (net .entry)) n ⌝ }
 {
     let mut top = 0;
+    let mut a = HEADER;
     let mut k = 0;
     while k < n {
-        let g = regs_at(net, k);
+        let row = row_from(net, a);
+        let g = card::row::load(row);
         top = bits::choice::choose(g.on_line() & (top < g.id), g.id, top);
+        a += row.len();
         k += 1;
     }
     top
@@ -129,18 +175,21 @@ fn header_fits(net: &[u8]) -> bool
         & (n <= ROWS)
         & (phase(net) < 3)
         & card::row::all_zero(&net[6..HEADER])
-        & (net.len() == HEADER + ROW_BYTES * n)
+        & (net.len() == row_start(net, n))
 }
 
 fn rows_fit(net: &[u8], n: usize) -> bool
-    requires { ⌜ rowStart n ≤ length (now net) ⌝ }
+    requires { ⌜ rowStart (now net) n ≤ length (now net) ⌝ }
     ensures { λ r. ⌜ r ≡ rowsFit (now (net .entry)) n ⌝ }
 {
+    let mut a = HEADER;
     let mut k = 0;
     while k < n {
-        if !card::row::well_formed(row_at(net, k)) {
+        let row = row_from(net, a);
+        if !card::row::well_formed(row) {
             return false;
         }
+        a += row.len();
         k += 1;
     }
     true
@@ -149,15 +198,18 @@ fn rows_fit(net: &[u8], n: usize) -> bool
 // The IDs of the rows on line differ pairwise: none has the ID of an on-line row before it. The rows are compared in place, since
 // a handheld has little stack (C-14).
 fn ids_differ(net: &[u8], n: usize) -> bool
-    requires { ⌜ rowStart n ≤ length (now net) ⌝ }
+    requires { ⌜ rowStart (now net) n ≤ length (now net) ⌝ }
     ensures { λ r. ⌜ r ≡ idsDiffer (now (net .entry)) n ⌝ }
 {
+    let mut a = HEADER;
     let mut k = 0;
     while k < n {
-        let g = regs_at(net, k);
+        let row = row_from(net, a);
+        let g = card::row::load(row);
         if g.on_line() && node_of(net, g.id, k, k) < k {
             return false;
         }
+        a += row.len();
         k += 1;
     }
     true
@@ -165,7 +217,7 @@ fn ids_differ(net: &[u8], n: usize) -> bool
 
 fn holder_fits(net: &[u8]) -> bool
     requires { ⌜ headerBytes ≤ length (now net) ⌝ }
-    requires { ⌜ rowStart (rows (now net)) ≤ length (now net) ⌝ }
+    requires { ⌜ rowStart (now net) (rows (now net)) ≤ length (now net) ⌝ }
     ensures { λ r. ⌜ r ≡ holderFits (now (net .entry)) ⌝ }
 {
     let h = holder(net);

@@ -5,9 +5,10 @@ use mathlib.Core.List.{List}
 use Prim.Native.Nat.{ℕ, _+_, _≤_, _<_}
 use native.Mathlib.Omega.{arith}
 use lib.ListN.{length, getD, length-append, length-replicate}
-use Rattle.card.specs.Row.{registerBytes, rowBytes}
+use Rattle.card.specs.Row.{registerBytes, Whole}
 use Rattle.card.specs.Packets.{dataAt, pageBytes, pageAt, pageShape, packetAt}
 use Rattle.card.proofs.Words.Laid.{length-part}
+use Rattle.card.proofs.Pages.Places.{page-behind}
 use Rattle.card.proofs.Pages.Sizes.{page-most, page-fits, count-byte}
 
 -- the bytes of a row's RAM are bytes
@@ -15,14 +16,13 @@ abbrev pub Ram : List ℕ → Type 0
 Ram r = (i : ℕ) → registerBytes ≤ i → getD r i 0 < 256
 
 module _ (r : List ℕ) (p : ℕ) where
-  pub packet-full : length r ≡ rowBytes → p < 4 → length (packetAt r p .bytes) ≡ 512
+  pub packet-full : Whole r → p < 4 → length (packetAt r p .bytes) ≡ 512
   unfolding packetAt
   packet-full l h =
       let n : ℕ = pageBytes (pageShape r p) in
-      simp (length-append, length-replicate, length-part (pageAt p) n r (omega (arith, page-fits r p h (pageShape r p) refl)))
+      simp (length-append, length-replicate, length-part (pageAt r p) n r (page-fits r p l h (pageShape r p) refl))
       (omega (arith, page-most (pageShape r p)))
 
   pub packet-count : Ram r → dataAt (packetAt r p .shape) < 256
   unfolding packetAt pageShape
-  packet-count b = count-byte _ _ _ (b (pageAt p + 2) (omega arith)) (b (pageAt p + 3) (omega arith))
-  -- a page that is stamped: COUNT stands past the byte that is written
+  packet-count b = count-byte _ _ _ (b (pageAt r p + 2) (omega (arith, page-behind r p))) (b (pageAt r p + 3) (omega (arith, page-behind r p)))

@@ -5,7 +5,6 @@ use mathlib.Core.Bool.{Bool, true, false, _&&_}
 use mathlib.Core.List.{List}
 use Prim.Native.Nat.{ℕ, _+_, _≤_, _<_}
 use native.Mathlib.Omega.{arith}
-use borrow.Author.Tests.{leb-true}
 use lib.Dec.{eqb, leb}
 use lib.ListN.{length, getD, length-map}
 use mir.Val.{Val}
@@ -13,10 +12,10 @@ use denote.Shadow.{shadow}
 use Rattle.card.specs.declared.packets.Shape.{Shape}
 use Rattle.card.specs.declared.packets.Shape.the-variants.{Malformed, Short, Long}
 use Rattle.card.specs.declared.packets.Packet.{Packet}
-use Rattle.bits.specs.Words.{pick, clear}
-use Rattle.card.specs.Row.{rowBytes, regsOf}
-use Rattle.card.specs.Packets.{shapeOf, dataBytes, dataAt, headBytes, pageBytes, pageAt, pageShape, malformed}
-use Rattle.bits.proofs.Words.Table.{by-table}
+use Rattle.bits.specs.Words.{pick}
+use Rattle.card.specs.Row.{Whole}
+use Rattle.card.specs.Packets.{shapeOf, dataBytes, dataAt, headBytes, pageBytes, pageOf, pageAt, pageShape, malformed}
+use Rattle.card.proofs.Pages.Places.{page-room}
 use Rattle.card.proofs.packets.Shape as shape
 use Rattle.card.proofs.packets.Packet as packet
 
@@ -85,29 +84,17 @@ count-byte a b l h k = split (leb 3 a) (eqb a 0 && l && leb 4 b)
     split false true = k
     split false false = omega arith
 
-either : (x y : Bool) → pick (x && y) 512 256 ≤ pick y 512 256
-either true y = omega arith
-either false true = omega arith
-either false false = omega arith
-
--- a page that may be long is even, and so it ends within the row
-even-fits : (p : ℕ) → p < 4 → pageAt p + pick (clear 1 p) 512 256 ≤ rowBytes
-even-fits p h =
-    leb-true _ _ (by-table false (λ p. leb (pageAt p + pick (clear 1 p) 512 256) rowBytes) (λ p. true) 4 refl p h)
-
-module _ (r : List ℕ) (p : ℕ) (h : p < 4) (s : Shape) (e : s ≡ pageShape r p) where
-  pub page-fits : pageAt p + pageBytes s ≤ rowBytes
+module _ (r : List ℕ) (p : ℕ) (w : Whole r) (h : p < 4) (s : Shape) (e : s ≡ pageShape r p) where
+  pub page-fits : pageAt r p + pageBytes s ≤ length r
   unfolding pageShape
-  page-fits =
-      rw e
-      (omega (arith, even-fits p h, either (eqb (regsOf r .long) 1) (clear 1 p), long-most (getD r (pageAt p + 2) 0) (getD r (pageAt p + 3) 0) (eqb (regsOf r .long) 1 && clear 1 p)))
+  page-fits = rw e (omega (arith, page-room r p w h, long-most (getD r (pageAt r p + 2) 0) (getD r (pageAt r p + 3) 0) (pageOf r p .long)))
 
   module _ (b : (i : ℕ) → getD r i 0 < 256) where
     pub page-count : dataAt s < 256
     unfolding pageShape
-    page-count = rw e (count-byte _ _ _ (b (pageAt p + 2)) (b (pageAt p + 3)))
+    page-count = rw e (count-byte _ _ _ (b (pageAt r p + 2)) (b (pageAt r p + 3)))
 
-    pub data-fits : pageAt p + (dataAt s + dataBytes s) ≤ rowBytes
+    pub data-fits : pageAt r p + (dataAt s + dataBytes s) ≤ length r
     data-fits = omega (arith, page-fits, data-end s page-count)
 
 pub head-least : (s : Shape) → malformed s ≡ false → 2 < headBytes s

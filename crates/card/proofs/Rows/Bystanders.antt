@@ -1,31 +1,32 @@
 -- A row that a message or a recovery reaches, and a row that stores a packet.
 -- Assumes nothing.
 use mathlib.Core.Path.{_≡_, refl, sym, _∙_}
-use mathlib.Core.Bool.{true, _&&_}
+use mathlib.Core.Bool.{true}
 use mathlib.Core.List.{List}
 use Prim.Native.Nat.{ℕ, _+_, _≤_, _<_}
 use native.Mathlib.Omega.{arith}
-use lib.Bits.{and-mask}
 use lib.Dec.{eqb}
 use lib.ListN.{length, getD}
 use Rattle.registers.specs.declared.regs.Regs.{Regs}
 use Rattle.card.specs.declared.packets.Shape.{Shape}
 use Rattle.card.specs.declared.packets.Shape.the-variants.{Malformed, Short, Long}
 use Rattle.card.specs.declared.packets.Packet.{Packet}
-use Rattle.bits.specs.Words.{clear}
 use Rattle.registers.specs.Events.{received, receiving, receivePage}
-use Rattle.card.specs.Row.{registerBytes, rowBytes, regsOf, putRegs}
-use Rattle.card.specs.Packets.{dataAt, pageBytes, pageAt, stored, storable}
+use Rattle.card.specs.Row.{registerBytes, regsOf, putRegs, Whole}
+use Rattle.card.specs.Packets.{dataAt, pageBytes, pageAt, stored, storable, pageOf}
 use Rattle.card.specs.Moves.{Holds}
 use Rattle.registers.proofs.Values.Fits.{Fit}
-use Rattle.registers.proofs.Values.Ends.{received-long, receive-page-small, receive-page-even}
+use Rattle.registers.proofs.Values.Ends.{received-long, receive-page-small}
 use Rattle.registers.proofs.Values.Listens.{Wakes, wakes-same, wakes-then, receive-page-same, received-same}
-use Rattle.card.proofs.Rows.Bytes.{length-put, put-ram, regs-put}
+use Rattle.card.proofs.Rows.Bytes.{size-put, put-ram, regs-put}
 use Rattle.card.proofs.Rows.WellFormed.{regs-stored}
 use Rattle.card.proofs.Pages.Stored.{length-stored}
 use Rattle.card.proofs.Pages.Waiting.{receive-room}
 use Rattle.card.proofs.Pages.Same.{holds-same}
-use Rattle.card.proofs.Pages.Sent.{SentFrom, holds-stored}
+use Rattle.card.proofs.Pages.Sent.{SentFrom}
+use Rattle.card.proofs.Pages.ReadBack.{holds-stored}
+use Rattle.card.proofs.Pages.Places.{page-behind, receive-long}
+use Rattle.card.proofs.Rows.Sizes.{SameSize, size-same, size-then, whole-registers}
 
 -- what a card can store
 module _ (g h : Regs) (b : Wakes g h) where
@@ -41,22 +42,22 @@ storable-long g c e = e
 
 -- ---- a row that a message or a recovery reached: as long, awake as it was, and the same behind the registers
 pub record Bystander (r s : List ℕ) : Type 0 where
-  pub size : length s ≡ length r
+  pub size : SameSize r s
   pub registers : Wakes (regsOf r) (regsOf s)
   pub behind : (i : ℕ) → registerBytes ≤ i → getD s i 0 ≡ getD r i 0
 
 pub bystander-same : (r : List ℕ) → Bystander r r
-bystander-same r = record { size = refl; registers = wakes-same (regsOf r); behind = λ i h. refl }
+bystander-same r = record { size = size-same r; registers = wakes-same (regsOf r); behind = λ i h. refl }
 
 pub bystander-then : (r s t : List ℕ) → Bystander r s → Bystander s t → Bystander r t
 bystander-then r s t a b = record {
-  size = b .size ∙ a .size;
+  size = size-then (a .size) (b .size);
   registers = wakes-then (regsOf r) (regsOf s) (regsOf t) (a .registers) (b .registers);
   behind = λ i h. b .behind i h ∙ a .behind i h;
 }
 
 pub bystander-put : (r : List ℕ) (g : Regs) → registerBytes ≤ length r → Wakes (regsOf r) g → Bystander r (putRegs r g)
-bystander-put r g h b = record { size = length-put r g; registers = rw (regs-put r g h) b; behind = put-ram r g }
+bystander-put r g h b = record { size = size-put r g; registers = rw (regs-put r g h) b; behind = put-ram r g }
 
 -- ---- a row that stored what another sends from page p: RI was 0; its receive has ended, "RI = 1, byte 14 zero" where none waited behind it, and the receive page
 -- holds the packet
@@ -88,31 +89,29 @@ module _ (sender : List ℕ) (p : ℕ) where
     }
 
 -- a packet that was sent so is stored
-module _ (sender : List ℕ) (p : ℕ) (ls : length sender ≡ rowBytes) (lp : p < 4) (k : Packet) (x : SentFrom sender p k) (full : 512 ≤ length (k .bytes)) (count : dataAt (k .shape) < 256)
-    (r : List ℕ) (l : length r ≡ rowBytes) (f : Fit (regsOf r)) (w : receiving (regsOf r) ≡ true) (can : storable (regsOf r) (k .shape) ≡ true) where
+module _ (sender : List ℕ) (p : ℕ) (ls : Whole sender) (lp : p < 4) (k : Packet) (x : SentFrom sender p k) (full : 512 ≤ length (k .bytes)) (count : dataAt (k .shape) < 256)
+    (r : List ℕ) (l : Whole r) (f : Fit (regsOf r)) (w : receiving (regsOf r) ≡ true) (can : storable (regsOf r) (k .shape) ≡ true) where
   abbrev q : ℕ
   q = receivePage (regsOf r)
 
+  pub room : pageAt r q + pageBytes (k .shape) ≤ length r
+  room = receive-room r l f w (k .shape) can
+
   abbrev with-packet : List ℕ
-  with-packet = stored r q k
+  with-packet = stored r (pageAt r q) k
 
-  pub room : pageAt q + pageBytes (k .shape) ≤ length r
-  room = omega (arith, l, receive-room (regsOf r) f w (k .shape) can)
-
-  may : (c : ℕ) → k .shape ≡ Long c → (eqb (regsOf r .long) 1 && clear 1 q) ≡ true
-  may c e =
-      let t = storable-long (regsOf r) c (rw e at can) in
-      rw (t, and-mask q 1, receive-page-even (regsOf r) f w t)
+  may : (c : ℕ) → k .shape ≡ Long c → pageOf r q .long ≡ true
+  may c e = receive-long r f w (storable-long (regsOf r) c (rw e at can))
 
   pub stores-stored : Storing sender p r (putRegs with-packet (received (regsOf with-packet)))
   stores-stored =
       let g = received (regsOf with-packet) in
-      let e = regs-put with-packet g (omega (arith, l, length-stored r q k room full count)) in
-      let same : regsOf with-packet ≡ regsOf r = regs-stored r l q k room full count in
+      let e = regs-put with-packet g (omega (arith, whole-registers r l, length-stored r (pageAt r q) k room full count)) in
+      let same : regsOf with-packet ≡ regsOf r = regs-stored r l (pageAt r q) (page-behind r q) k room full count in
       let h = holds-stored sender p k ls lp x r q (receive-page-small (regsOf r)) room full count may in
       record {
         waited = w;
         filled = rw (e, same);
         ended = rw (e, same);
-        holds = holds-same sender p with-packet _ q (length-put with-packet g) (rw e (received-long (regsOf with-packet))) (put-ram with-packet g) h;
+        holds = holds-same sender p with-packet _ q (size-put with-packet g) (rw e (received-long (regsOf with-packet))) (put-ram with-packet g) h;
       }

@@ -17,6 +17,7 @@ use Rattle.registers.specs.Layout.{at-id, at-received, at-fetched, at-nak-high,
 use Rattle.registers.specs.Fit.{fit}
 use Rattle.bits.proofs.Words.Bools.{cases, and-left, and-right, and-false, or-left, or-right}
 use Rattle.bits.proofs.Words.Table.{by-table}
+use Rattle.card.proofs.Rows.Sizes.{SameSize, size-of}
 
 -- ---- a run of stores: below it, above it, and in it
 module _ (k : ℕ) where
@@ -65,6 +66,9 @@ module _ (r : List ℕ) (g : Regs) where
       outside a b l vs e n =
           ⊎-elim (λ (t : leb a i ≡ true). above i l a vs (let u : leb i b ≡ false = rw t at e in omega (arith, n, leb-false i b u)))
           (λ (t : leb a i ≡ false). below i l a vs (leb-false a i t)) (cases (leb a i))
+
+  pub size-put : SameSize r (putRegs r g)
+  size-put = size-of r (putRegs r g) length-put (λ x b. put-rest x (rw (not-leb at-id x (omega arith), not-leb at-fetched x (omega arith))))
 
   pub put-ram : (i : ℕ) → registerBytes ≤ i → getD (putRegs r g) i 0 ≡ getD r i 0
   put-ram i h =

@@ -21,10 +21,11 @@ use Rattle.registers.proofs.Values.Keeps.{Keeps}
 use Rattle.registers.proofs.Values.KeepsCalls.{keeps-read}
 use Rattle.registers.proofs.Values.Unqueued.{unqueued-fit}
 use Rattle.registers.proofs.Values.Chained.{keeps-changes, keeps-hardware}
-use Rattle.card.specs.Row.{registerBytes, rowBytes, regsOf, putRegs, wellFormed}
+use Rattle.card.specs.Row.{registerBytes, regsOf, putRegs, wellFormed, Whole}
 use Rattle.card.specs.Access.{pointed, rowAfterRead, ramWritten, rowAfterWrite, rowAfterReset}
-use Rattle.card.specs.Packets.{dataAt, headBytes, pageBytes, pageAt, stored, stamped}
+use Rattle.card.specs.Packets.{dataAt, headBytes, pageBytes, stored, stamped}
 use Rattle.card.specs.Moves.{OnlyAt, inPacket, writeMoves}
+use Rattle.card.proofs.Rows.Sizes.{whole-registers}
 use Rattle.card.proofs.Rows.Bytes.{regs-same, length-put, put-rest, put-at, put-later, regs-at, later-at, well-fit}
 use Rattle.card.proofs.Pages.Stored.{length-stored, stored-outside, stored-gap}
 use Rattle.card.proofs.Rows.Accesses.{length-ram}
@@ -63,11 +64,11 @@ only-put l r g h q = record {
 only-set : (r : List ℕ) (a v : ℕ) → OnlyAt (λ i. eqb i a) r (set r a v)
 only-set r a v = record { size = length-set r a v; same = λ i e. getD-set-other r a i v 0 (eqb-false i a e) }
 
-pub only-stamped : (r : List ℕ) (p : ℕ) → OnlyAt (λ i. eqb i (pageAt p)) r (stamped r p)
+pub only-stamped : (r : List ℕ) (a : ℕ) → OnlyAt (λ i. eqb i a) r (stamped r a)
 unfolding stamped
-only-stamped r p = only-set r (pageAt p) (regsOf r .id)
+only-stamped r a = only-set r a (regsOf r .id)
 
-module _ (r : List ℕ) (p : ℕ) (k : Packet) (f : pageAt p + pageBytes (k .shape) ≤ length r) (l : 512 ≤ length (k .bytes)) (b : dataAt (k .shape) < 256) where
+module _ (r : List ℕ) (a : ℕ) (k : Packet) (f : a + pageBytes (k .shape) ≤ length r) (l : 512 ≤ length (k .bytes)) (b : dataAt (k .shape) < 256) where
   both-false : (a b : Bool) → (a && b) ≡ false → a ≡ true → b ≡ false
   both-false true b e t = e
   both-false false b e t = absurd (false≢true t)
@@ -77,33 +78,33 @@ module _ (r : List ℕ) (p : ℕ) (k : Packet) (f : pageAt p + pageBytes (k .sha
   and-swap false b e = and-false b
 
   -- in the page, and not in head or data: the gap
-  kept-gap : (i : ℕ) → inPacket p (k .shape) i ≡ false → pageAt p ≤ i → i < pageAt p + pageBytes (k .shape) → getD (stored r p k) i 0 ≡ getD r i 0
+  kept-gap : (i : ℕ) → inPacket a (k .shape) i ≡ false → a ≤ i → i < a + pageBytes (k .shape) → getD (stored r a k) i 0 ≡ getD r i 0
   kept-gap i e low high =
-      let from = leb (pageAt p) i in
-      let head = ltb i (pageAt p + headBytes (k .shape)) in
-      let past = leb (pageAt p + dataAt (k .shape)) i in
-      let to = ltb i (pageAt p + pageBytes (k .shape)) in
+      let from = leb a i in
+      let head = ltb i (a + headBytes (k .shape)) in
+      let past = leb (a + dataAt (k .shape)) i in
+      let to = ltb i (a + pageBytes (k .shape)) in
       let u = or-left (from && head) (past && to) e in
       let v = or-right (from && head) (past && to) e in
-      stored-gap r p k f l b i (ltb-false i _ (both-false from head u (le-leb (pageAt p) i low)))
+      stored-gap r a k f l b i (ltb-false i _ (both-false from head u (le-leb a i low)))
       (leb-false _ i (both-false to past (and-swap past to v) (lt-ltb i _ high)))
 
-  pub only-stored : OnlyAt (inPacket p (k .shape)) r (stored r p k)
+  pub only-stored : OnlyAt (inPacket a (k .shape)) r (stored r a k)
   only-stored = record {
-    size = length-stored r p k f l b;
-    same = λ i e. ⊎-elim (λ (t : ltb i (pageAt p) ≡ true). stored-outside r p k f l b i (inl (ltb-true i _ t)))
-        (λ (t : ltb i (pageAt p) ≡ false). ⊎-elim
-        (λ (u : ltb i (pageAt p + pageBytes (k .shape)) ≡ true). kept-gap i e (ltb-false i _ t) (ltb-true i _ u))
-        (λ (u : ltb i (pageAt p + pageBytes (k .shape)) ≡ false). stored-outside r p k f l b i (inr (ltb-false i _ u)))
-        (cases (ltb i (pageAt p + pageBytes (k .shape)))))
-        (cases (ltb i (pageAt p)));
+    size = length-stored r a k f l b;
+    same = λ i e. ⊎-elim (λ (t : ltb i a ≡ true). stored-outside r a k f l b i (inl (ltb-true i _ t)))
+        (λ (t : ltb i a ≡ false). ⊎-elim
+        (λ (u : ltb i (a + pageBytes (k .shape)) ≡ true). kept-gap i e (ltb-false i _ t) (ltb-true i _ u))
+        (λ (u : ltb i (a + pageBytes (k .shape)) ≡ false). stored-outside r a k f l b i (inr (ltb-false i _ u)))
+        (cases (ltb i (a + pageBytes (k .shape)))))
+        (cases (ltb i a));
   }
 
 -- ---- the register accesses
-module _ (r : List ℕ) (l : length r ≡ rowBytes) where
+module _ (r : List ℕ) (l : Whole r) where
   pub only-read : (k : ℕ) → OnlyAt (among (readChanges k)) r (rowAfterRead r k)
   unfolding rowAfterRead
-  only-read k = only-put (readChanges k) r _ (omega arith) (keeps-read (regsOf r) k)
+  only-read k = only-put (readChanges k) r _ (whole-registers r l) (keeps-read (regsOf r) k)
 
   -- a write of register 4 writes the RAM byte too
   pub only-write : wellFormed r ≡ true → (k v : ℕ) → OnlyAt (writeMoves r k) r (rowAfterWrite r k v)
@@ -115,7 +116,7 @@ module _ (r : List ℕ) (l : length r ≡ rowBytes) where
       (pick-of (λ (x : List ℕ). OnlyAt (writeMoves r k) r x) (eqb k 4)
       (λ t. only-wider r _ (λ i f. rw t at (or-right (among (writeChanges (regsOf r) k) i) _ f)) (only-set r (pointed r) v)) (λ _. only-stays _ r))
       (only-wider m _ (λ i f. or-left _ (eqb k 4 && eqb i (pointed r)) f)
-      (only-put (writeChanges (regsOf r) k) m _ (omega (arith, length-ram r k (pointed r) v)) (rw e (keeps-changes (regsOf r) (λ c. unqueued-fit (regsOf r) c (well-fit r w)) k v))))
+      (only-put (writeChanges (regsOf r) k) m _ (omega (arith, whole-registers r l, length-ram r k (pointed r) v)) (rw e (keeps-changes (regsOf r) (λ c. unqueued-fit (regsOf r) c (well-fit r w)) k v))))
 
   pub only-reset : wellFormed r ≡ true → OnlyAt (among (resetBytes (chaining (regsOf r)))) r (rowAfterReset r)
-  only-reset w = only-put (resetBytes (chaining (regsOf r))) r hardwareReset (omega arith) (keeps-hardware (regsOf r) (well-fit r w))
+  only-reset w = only-put (resetBytes (chaining (regsOf r))) r hardwareReset (whole-registers r l) (keeps-hardware (regsOf r) (well-fit r w))

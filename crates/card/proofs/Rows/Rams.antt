@@ -12,11 +12,12 @@ use lib.ListN.{length, getD, take, drop, replicate, set, length-take, length-set
 use lib.Seq.{getD-take, getD-drop, getD-append-add, getD-set-same, getD-set-other}
 use Rattle.registers.specs.declared.regs.Regs.{Regs}
 use Rattle.card.specs.declared.packets.Packet.{Packet}
-use Rattle.card.specs.Row.{regsOf, putRegs}
+use Rattle.card.specs.Row.{regsOf, putRegs, registerBytes}
 use Rattle.card.specs.Packets.{dataAt, headBytes, pageBytes, pageAt, pageShape, packetAt, stored, stamped}
 use Rattle.bits.proofs.Words.Bools.{cases}
 use Rattle.card.proofs.Rows.Bytes.{put-ram}
 use Rattle.card.proofs.Pages.Stored.{stored-outside, stored-gap, stored-data, stored-head}
+use Rattle.card.proofs.Pages.Places.{page-behind}
 use Rattle.card.proofs.Pages.Packets.{Ram}
 
 -- ---- a list of bytes
@@ -50,8 +51,8 @@ module _ (r : List ℕ) (b : Ram r) where
   pub packet-bytes : (p : ℕ) → Small (packetAt r p .bytes)
   unfolding packetAt
   packet-bytes p =
-      small-append (take (pageBytes (pageShape r p)) (drop (pageAt p) r)) (replicate (512 - pageBytes (pageShape r p)) 0)
-      (small-take (pageBytes (pageShape r p)) (drop (pageAt p) r) (λ i. rw getD-drop (b (pageAt p + i) (omega arith))))
+      small-append (take (pageBytes (pageShape r p)) (drop (pageAt r p) r)) (replicate (512 - pageBytes (pageShape r p)) 0)
+      (small-take (pageBytes (pageShape r p)) (drop (pageAt r p) r) (λ i. rw getD-drop (b (pageAt r p + i) (omega (arith, page-behind r p)))))
       (small-zeros (512 - pageBytes (pageShape r p)))
 
   -- ---- what leaves the RAM so: other registers, a byte anywhere, the ID in a page, a packet of bytes in a page
@@ -70,26 +71,26 @@ module _ (r : List ℕ) (b : Ram r) where
           (λ t. rw (List·getD-eq-default (set r a v) 0 {n = a} (omega (arith, length-set r a v, ltb-false a (length r) t))) (omega arith))
           (cases (ltb a (length r)))
 
-  pub ram-stamped : (p : ℕ) → regsOf r .id < 256 → Ram (stamped r p)
+  pub ram-stamped : (a : ℕ) → regsOf r .id < 256 → Ram (stamped r a)
   unfolding stamped
-  ram-stamped p d = ram-set (pageAt p) (regsOf r .id) d
+  ram-stamped a d = ram-set a (regsOf r .id) d
 
-  module _ (p : ℕ) (k : Packet) (f : pageAt p + pageBytes (k .shape) ≤ length r) (n : 512 ≤ length (k .bytes)) (c : dataAt (k .shape) < 256) (q : Small (k .bytes)) where
+  module _ (a : ℕ) (low : registerBytes ≤ a) (k : Packet) (f : a + pageBytes (k .shape) ≤ length r) (n : 512 ≤ length (k .bytes)) (c : dataAt (k .shape) < 256) (q : Small (k .bytes)) where
     -- at an offset of the page
-    within : (j : ℕ) → j < pageBytes (k .shape) → getD (stored r p k) (pageAt p + j) 0 < 256
+    within : (j : ℕ) → j < pageBytes (k .shape) → getD (stored r a k) (a + j) 0 < 256
     within j h =
-        ⊎-elim (λ t. rw (stored-head r p k f n c j (ltb-true j (headBytes (k .shape)) t)) (q j))
+        ⊎-elim (λ t. rw (stored-head r a k f n c j (ltb-true j (headBytes (k .shape)) t)) (q j))
         (λ t. ⊎-elim
-        (λ u. rw (stored-gap r p k f n c (pageAt p + j) (omega (arith, ltb-false j (headBytes (k .shape)) t)) (omega (arith, ltb-true j (dataAt (k .shape)) u))) (b (pageAt p + j) (omega arith)))
-        (λ u. rw (stored-data r p k f n c j (ltb-false j (dataAt (k .shape)) u) h) (q j)) (cases (ltb j (dataAt (k .shape)))))
+        (λ u. rw (stored-gap r a k f n c (a + j) (omega (arith, ltb-false j (headBytes (k .shape)) t)) (omega (arith, ltb-true j (dataAt (k .shape)) u))) (b (a + j) (omega arith)))
+        (λ u. rw (stored-data r a k f n c j (ltb-false j (dataAt (k .shape)) u) h) (q j)) (cases (ltb j (dataAt (k .shape)))))
         (cases (ltb j (headBytes (k .shape))))
 
-    pub ram-stored : Ram (stored r p k)
+    pub ram-stored : Ram (stored r a k)
     ram-stored i h =
-        ⊎-elim (λ t. rw (stored-outside r p k f n c i (inl (ltb-true i (pageAt p) t))) (b i h))
+        ⊎-elim (λ t. rw (stored-outside r a k f n c i (inl (ltb-true i a t))) (b i h))
         (λ t. ⊎-elim
-        (λ u. let e : pageAt p + (i - pageAt p) ≡ i = omega (arith, ltb-false i (pageAt p) t) in
-        rw e at (within (i - pageAt p) (omega (arith, ltb-false i (pageAt p) t, ltb-true i (pageAt p + pageBytes (k .shape)) u))))
-        (λ u. rw (stored-outside r p k f n c i (inr (ltb-false i (pageAt p + pageBytes (k .shape)) u))) (b i h))
-        (cases (ltb i (pageAt p + pageBytes (k .shape)))))
-        (cases (ltb i (pageAt p)))
+        (λ u. let e : a + (i - a) ≡ i = omega (arith, ltb-false i a t) in
+        rw e at (within (i - a) (omega (arith, ltb-false i a t, ltb-true i (a + pageBytes (k .shape)) u))))
+        (λ u. rw (stored-outside r a k f n c i (inr (ltb-false i (a + pageBytes (k .shape)) u))) (b i h))
+        (cases (ltb i (a + pageBytes (k .shape)))))
+        (cases (ltb i a))

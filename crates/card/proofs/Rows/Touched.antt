@@ -1,23 +1,21 @@
 -- What a register access leaves of a row: a RAM and an ID of bytes, its NID, and, where it is a read, who it is.
 -- Assumes nothing.
-use mathlib.Core.Path.{_≡_}
 use mathlib.Core.List.{List}
 use Prim.Native.Nat.{ℕ, _<_}
-use native.Mathlib.Omega.{arith}
 use lib.Dec.{eqb}
-use lib.ListN.{length}
-use Rattle.card.specs.Row.{rowBytes, regsOf}
+use Rattle.card.specs.Row.{regsOf, Whole}
 use Rattle.registers.specs.Registers.{afterRead, afterWrite}
 use Rattle.card.specs.Access.{pointed, rowAfterRead, ramWritten, rowAfterWrite}
 use Rattle.bits.proofs.Words.Bools.{pick-of}
+use Rattle.card.proofs.Rows.Sizes.{whole-registers}
 use Rattle.card.proofs.Rows.Bytes.{regs-put}
 use Rattle.card.proofs.Pages.Packets.{Ram}
 use Rattle.card.proofs.Rows.Rams.{ram-put, ram-set}
 use Rattle.registers.proofs.Values.SameCard.{SameCard, same-read}
 
-pub same-row : (r : List ℕ) → length r ≡ rowBytes → (k : ℕ) → SameCard (regsOf r) (regsOf (rowAfterRead r k))
+pub same-row : (r : List ℕ) → Whole r → (k : ℕ) → SameCard (regsOf r) (regsOf (rowAfterRead r k))
 unfolding rowAfterRead
-same-row r l k = rw (regs-put r (afterRead (regsOf r) k) (omega arith)) (same-read (regsOf r) k)
+same-row r l k = rw (regs-put r (afterRead (regsOf r) k) (whole-registers r l)) (same-read (regsOf r) k)
 
 module _ (r : List ℕ) (b : Ram r) (k : ℕ) where
   pub ram-read : Ram (rowAfterRead r k)

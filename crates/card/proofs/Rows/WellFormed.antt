@@ -11,15 +11,16 @@ use lib.ListN.{length, set, length-set, replicate}
 use lib.Seq.{getD-set-other}
 use Rattle.registers.specs.declared.regs.Regs.{Regs}
 use Rattle.card.specs.declared.packets.Packet.{Packet}
-use Rattle.card.specs.Row.{registerBytes, rowBytes, regsOf, putRegs, marked, zeros, spare, wellFormed, mark}
+use Rattle.card.specs.Row.{registerBytes, rowBytes, regsOf, putRegs, marked, zeros, spare, wellFormed, mark, rowSize, Whole}
 use Rattle.registers.specs.Fit.{onLine}
 use Rattle.registers.specs.Registers.{afterRead, afterWrite, hardwareReset}
 use Rattle.registers.specs.Refusals.{writeNumber}
 use Rattle.card.specs.Access.{pointed, rowAfterRead, ramWritten, rowAfterWrite, rowAfterReset, freshRow}
-use Rattle.card.specs.Packets.{dataAt, pageBytes, pageAt, stored, stamped}
+use Rattle.card.specs.Packets.{dataAt, pageBytes, stored, stamped}
 use Rattle.bits.proofs.Words.Bools.{pick-of}
-use Rattle.card.proofs.Rows.Bytes.{regs-same, length-put, well-fit, well-same, well-put, regs-put}
+use Rattle.card.proofs.Rows.Bytes.{regs-same, size-put, well-fit, well-same, well-put, regs-put}
 use Rattle.registers.proofs.Values.Fits.{Fit, fit-rules, rules-fit}
+use Rattle.card.proofs.Rows.Sizes.{SameSize, size-same, size-then, size-set, whole-registers}
 use Rattle.card.proofs.Rows.Accesses.{length-ram}
 use Rattle.registers.proofs.Values.FitCalls.{fit-read, fit-write, fit-reset}
 use Rattle.card.proofs.Pages.Stored.{stored-outside, length-stored}
@@ -28,6 +29,10 @@ use Rattle.registers.proofs.Values.SameCard.{reset-off}
 pub length-fresh : length freshRow ≡ rowBytes
 unfolding freshRow putRegs
 length-fresh = refl
+
+pub fresh-whole : Whole freshRow
+unfolding rowSize
+fresh-whole = length-fresh
 
 -- the row before its registers: a mark and zeros
 abbrev bare : List ℕ
@@ -44,28 +49,34 @@ well-fresh = rw (regs-fresh, fit-reset)
 pub fresh-off : onLine (regsOf freshRow) ≡ false
 fresh-off = rw regs-fresh reset-off
 
-module _ (r : List ℕ) (l : length r ≡ rowBytes) where
-  pub length-read : (k : ℕ) → length (rowAfterRead r k) ≡ rowBytes
+-- ---- a row that a register access leaves is as long as it was
+module _ (r : List ℕ) where
+  pub size-read : (k : ℕ) → SameSize r (rowAfterRead r k)
   unfolding rowAfterRead
-  length-read k = length-put r _ ∙ l
+  size-read k = size-put r _
 
-  pub length-write : (k v : ℕ) → length (rowAfterWrite r k v) ≡ rowBytes
+  pub size-write : (k v : ℕ) → SameSize r (rowAfterWrite r k v)
   unfolding rowAfterWrite
-  length-write k v = length-put (ramWritten r k (pointed r) v) _ ∙ length-ram r k (pointed r) v ∙ l
+  size-write k v =
+      size-then (pick-of (λ (x : List ℕ). SameSize r x) (eqb k 4) (λ _. size-set r (pointed r) v (omega arith)) (λ _. size-same r)) (size-put (ramWritten r k (pointed r) v) _)
+
+module _ (r : List ℕ) (l : Whole r) where
+  registers : registerBytes ≤ length r
+  registers = whole-registers r l
 
   -- a byte of the RAM is written
   well-set : (i v : ℕ) → registerBytes ≤ i → wellFormed (set r i v) ≡ wellFormed r
   well-set i v h =
-      well-same r (set r i v) (length-set r i v) (omega arith) (λ j b. getD-set-other r i j v 0 (λ e. omega arith))
+      well-same r (set r i v) (length-set r i v) registers (λ j b. getD-set-other r i j v 0 (λ e. omega arith))
 
   -- a page that is stamped or stored in leaves the registers
-  pub regs-stamped : (p : ℕ) → regsOf (stamped r p) ≡ regsOf r
+  pub regs-stamped : (a : ℕ) → registerBytes ≤ a → regsOf (stamped r a) ≡ regsOf r
   unfolding stamped
-  regs-stamped p = regs-same r _ (λ j b. getD-set-other r (pageAt p) j (regsOf r .id) 0 (λ e. omega arith))
+  regs-stamped a h = regs-same r _ (λ j b. getD-set-other r a j (regsOf r .id) 0 (λ e. omega arith))
 
-  pub regs-stored : (p : ℕ) (k : Packet) → pageAt p + pageBytes (k .shape) ≤ length r → 512 ≤ length (k .bytes) → dataAt (k .shape) < 256
-      → regsOf (stored r p k) ≡ regsOf r
-  regs-stored p k f n b = regs-same r (stored r p k) (λ j h. stored-outside r p k f n b j (inl (omega arith)))
+  pub regs-stored : (a : ℕ) → registerBytes ≤ a → (k : Packet) → a + pageBytes (k .shape) ≤ length r → 512 ≤ length (k .bytes) → dataAt (k .shape) < 256
+      → regsOf (stored r a k) ≡ regsOf r
+  regs-stored a h k f n b = regs-same r (stored r a k) (λ j l. stored-outside r a k f n b j (inl (omega arith)))
 
   module _ (w : wellFormed r ≡ true) where
     fits : Fit (regsOf r)
@@ -73,10 +84,10 @@ module _ (r : List ℕ) (l : length r ≡ rowBytes) where
 
     -- the row with other registers that fit, as an event leaves it
     pub well-regs : (g : Regs) → Fit g → wellFormed (putRegs r g) ≡ true
-    well-regs g f = well-put r g (omega arith) w (rules-fit g f)
+    well-regs g f = well-put r g registers w (rules-fit g f)
 
     pub well-reset : wellFormed (rowAfterReset r) ≡ true
-    well-reset = well-put r hardwareReset (omega arith) w fit-reset
+    well-reset = well-put r hardwareReset registers w fit-reset
 
     pub well-read : (k : ℕ) → wellFormed (rowAfterRead r k) ≡ true
     unfolding rowAfterRead
@@ -89,15 +100,15 @@ module _ (r : List ℕ) (l : length r ≡ rowBytes) where
     pub well-write : (k v : ℕ) → writeNumber (regsOf r) k v ≡ 0 → wellFormed (rowAfterWrite r k v) ≡ true
     unfolding rowAfterWrite
     well-write k v e =
-        well-put (ramWritten r k (pointed r) v) (afterWrite (regsOf r) k v) (omega (arith, length-ram r k (pointed r) v)) (ram-well k v)
+        well-put (ramWritten r k (pointed r) v) (afterWrite (regsOf r) k v) (omega (arith, registers, length-ram r k (pointed r) v)) (ram-well k v)
         (rules-fit _ (fit-write (regsOf r) fits k v e))
 
-    pub well-stamped : (p : ℕ) → wellFormed (stamped r p) ≡ true
+    pub well-stamped : (a : ℕ) → registerBytes ≤ a → wellFormed (stamped r a) ≡ true
     unfolding stamped
-    well-stamped p = well-set (pageAt p) (regsOf r .id) (omega arith) ∙ w
+    well-stamped a h = well-set a (regsOf r .id) h ∙ w
 
-    pub well-stored : (p : ℕ) (k : Packet) → pageAt p + pageBytes (k .shape) ≤ length r → 512 ≤ length (k .bytes) → dataAt (k .shape) < 256
-        → wellFormed (stored r p k) ≡ true
-    well-stored p k f n b =
-        well-same r (stored r p k) (length-stored r p k f n b) (omega arith)
-        (λ i h. stored-outside r p k f n b i (inl (omega arith))) ∙ w
+    pub well-stored : (a : ℕ) → registerBytes ≤ a → (k : Packet) → a + pageBytes (k .shape) ≤ length r → 512 ≤ length (k .bytes) → dataAt (k .shape) < 256
+        → wellFormed (stored r a k) ≡ true
+    well-stored a h k f n b =
+        well-same r (stored r a k) (length-stored r a k f n b) registers
+        (λ i l. stored-outside r a k f n b i (inl (omega arith))) ∙ w

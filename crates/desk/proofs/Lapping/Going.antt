@@ -16,7 +16,7 @@ use Rattle.bits.specs.Words.{pick}
 use Rattle.bits.proofs.Words.Bools.{cases}
 use Rattle.line.specs.declared.step.Answer.{Answer}
 use Rattle.line.specs.declared.step.Answer.the-variants.{Refused, Quiet, Recovered, Passed, Unanswered, TokenLost, Held}
-use Rattle.table.specs.Network.{rows, regsAt}
+use Rattle.table.specs.Network.{rowLimit, rows, regsAt}
 use Rattle.line.specs.Step.{step, answerValue}
 use Rattle.table.proofs.Folds.{clash}
 use Rattle.desk.specs.declared.laps.Taker.{Taker}
@@ -53,7 +53,7 @@ pub record Going (net : List ℕ) (first : ℕ) (now : List ℕ) (list : List Ta
   pub course : Course net first
   pub k : ℕ
   pub now-is : now ≡ after k net
-  pub room : length list ≡ 60
+  pub room : length list ≡ rowLimit
   pub unused : drop n list ≡ drop n nobody
   pub listed : take n list ≡ takers net 0 (answers k net)
   pub many : n ≡ entries net k
@@ -136,12 +136,12 @@ module _ (net : List ℕ) (first : ℕ) (now : List ℕ) (list : List Taker) (n 
   other-next f = refl
 
   -- there is room for an entry more, and the counts are small
-  pub space : n < 60
+  pub space : n < rowLimit
   space = omega (arith, v .many, v .course .few (v .k) (v .away refl), nodes-most net first (v .course))
 
-  pub small : (recent ≤ 375) × (total ≤ 375)
+  pub small : (recent ≤ 256 + 2 * rowLimit) × (total ≤ 256 + 2 * rowLimit)
   small =
-      let k : v .k ≤ 375 = omega (arith, v .away refl, nodes-most net first (v .course)) in
+      let k : v .k ≤ 256 + 2 * rowLimit = omega (arith, v .away refl, nodes-most net first (v .course)) in
       (omega (arith, v .recent-is, since-most (v .k) net), omega (arith, v .total-is, invitations-most (v .k) net))
 
   -- the token is taken: one entry more

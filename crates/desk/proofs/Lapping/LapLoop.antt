@@ -10,19 +10,20 @@ use lib.ListN.{length, take, drop, set}
 use Rattle.registers.specs.declared.regs.Regs.{Regs}
 use Rattle.bits.specs.Words.{pick}
 use Rattle.line.specs.declared.step.Answer.{Answer}
-use Rattle.card.specs.Row.{rowBytes}
-use Rattle.table.specs.Network.{rowStart, rows, phase, LOST, regsAt, shape}
+use Rattle.table.specs.Rows.{rowStart}
+use Rattle.table.specs.Network.{rows, phase, LOST, regsAt, shape, rowLimit}
 use Rattle.line.specs.Step.{stepTurn, step, answerValue}
 use Rattle.line.specs.Traffic.{Turn}
 use Rattle.line.proofs.Steps.StepIs.{step-is}
-use Rattle.table.proofs.Shaped.Shapes.{shape-within, shape-rows, shape-length}
+use Rattle.table.proofs.Shaped.Shapes.{shape-within, shape-rows}
 use Rattle.line.proofs.Steps.View.{Rams, any-step}
+use Rattle.line.proofs.Steps.StepBy.{frame-step}
 use Rattle.desk.specs.declared.laps.Taker.{Taker}
 use Rattle.desk.specs.Lap.{nodes, after, answers, invitation, passed, invitations, nobody, takers, lapSteps}
 use Rattle.desk.proofs.Runs.Steps.{after-more}
 use Rattle.desk.proofs.Runs.Back.{start, first-holder}
 use Rattle.desk.proofs.Runs.LapCounts.{lap-entries}
-use Rattle.desk.proofs.Lapping.Walking.{alikes}
+use Rattle.desk.proofs.Lapping.Walking.{alikes, after-size}
 use Rattle.desk.proofs.Lapping.Course.{left, left-is, course, lap-after, lap-invitations, lap-takers}
 use Rattle.desk.proofs.Lapping.Going.{Going, passed-invites, begin, step-other, other-next, space, small, below, step-passed, passed-next}
 
@@ -48,9 +49,7 @@ module _ (net : List ℕ) (s : shape net ≡ true) (b : Rams net) (lost : phase 
   -- the network is as long as it was
   pub same-size : (now : List ℕ) (list : List Taker) (n recent total : ℕ) (home : Bool) → Going new first now list n recent total home → length now ≡ length net
   same-size now list n recent total home v =
-      let w = alikes new (v .course .fits) (v .course .rams) (v .k) in
-      let t : rows new ≡ rows net = rw (came net s a new e) (any-step net s b .count) in
-      rw (v .now-is) (omega (arith, shape-length _ (w .fits), w .count, t, shape-length net s))
+      ap length (v .now-is) ∙ after-size new (v .course .fits) (v .course .rams) (v .k) ∙ ap length (came net s a new e) ∙ frame-step net s b 0 .size
 
   -- the loop has ended
   pub record Ended (now : List ℕ) (list : List Taker) (n total : ℕ) : Type 0 where
@@ -96,7 +95,8 @@ module _ (net : List ℕ) (first : ℕ) (now : List ℕ) (list : List Taker) (n 
   going-shape home v = rw (v .now-is) (alikes net (v .course .fits) (v .course .rams) (v .k) .fits)
 
   -- the counts fit, and there is room for an entry more
-  pub going-small : (home : Bool) → Going net first now list n recent total home → not home ≡ true → (n < 60) × (recent ≤ 375) × (total ≤ 375)
+  pub going-small : (home : Bool) → Going net first now list n recent total home → not home ≡ true
+      → (n < rowLimit) × (recent ≤ 256 + 2 * rowLimit) × (total ≤ 256 + 2 * rowLimit)
   going-small true v t = absurd (true≢false (sym t))
   going-small false v t = let q = small net first now list n recent total v _ refl _ refl in (space net first now list n recent total v _ refl _ refl, q .0, q .1)
 
@@ -126,7 +126,7 @@ module _ (net : List ℕ) (first : ℕ) (now : List ℕ) (list : List Taker) (n 
 
       -- its part lies in the network, and its number is a byte
       pub turn-part : (home : Bool) → Going net first now list n recent total home → not home ≡ true → p ≡ true
-          → (rowStart row + rowBytes ≤ length new) × (row < 256)
+          → (rowStart new (suc row) ≤ length new) × (row < 256)
       turn-part home v t f =
           let s = going-shape home v in
           let z = any-step now s (rw (v .now-is) (alikes net (v .course .fits) (v .course .rams) (v .k) .rams)) in

@@ -14,6 +14,7 @@ use Rattle.line.specs.Step.{step}
 use Rattle.desk.specs.declared.laps.Taker.{Taker}
 use Rattle.desk.specs.Lap.{nodes, after, answers, invitation, passed, invitations, takers, back, lapSteps, runs, netAfterLap}
 use Rattle.line.proofs.Steps.View.{Rams, Alike, alike-same, alike-then, any-step}
+use Rattle.line.proofs.Steps.StepBy.{frame-step}
 use Rattle.desk.proofs.Runs.Steps.{after-none, after-more, answers-none, answers-more, since, since-none, since-more, invitations-none, invitations-more, takers-more}
 use Rattle.desk.proofs.Runs.Back.{is-back, lap-steps}
 use Rattle.desk.proofs.Runs.LapCounts.{lap-entries}
@@ -24,6 +25,13 @@ alikes net s b zero = rw after-none (alike-same net s b)
 alikes net s b (suc k) =
     let a = alikes net s b k in
     rw after-more (alike-then a (any-step (after k net) (a .fits) (a .rams)))
+
+-- each network is as long as the first
+pub after-size : (net : List ℕ) → shape net ≡ true → Rams net → (k : ℕ) → length (after k net) ≡ length net
+after-size net s b zero = rw after-none
+after-size net s b (suc k) =
+    let a = alikes net s b k in
+    rw after-more (frame-step (after k net) (a .fits) (a .rams) 0 .size ∙ after-size net s b k)
 
 pub shape-lap : (net : List ℕ) → shape net ≡ true → Rams net → (room : ℕ) → shape (netAfterLap net room) ≡ true
 unfolding netAfterLap

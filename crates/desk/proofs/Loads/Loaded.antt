@@ -18,8 +18,9 @@ use Rattle.card.specs.Access.{freshRow}
 use Rattle.bits.proofs.Words.Bools.{cases}
 use Rattle.card.proofs.Rows.WellFormed.{fresh-off}
 use Rattle.card.proofs.Rows.WellFormed.{regs-fresh}
-use Rattle.table.specs.Network.{rows, phase, LOST, rowAt, regsAt, onLineAt, isNode, shape, rowStart}
-use Rattle.table.specs.Calls.{netAfterFresh, freshNet}
+use Rattle.table.specs.Rows.{rowAt}
+use Rattle.table.specs.Network.{rows, phase, LOST, regsAt, onLineAt, isNode, shape}
+use Rattle.table.specs.Calls.{netAfterFresh, freshNet, exactLength}
 use Rattle.table.proofs.Folds.{clash}
 use Rattle.table.proofs.Online.Nodes.{online-is, node-online, node-id, online-same}
 use Rattle.table.proofs.Access.Fresh.{fresh-room, fresh-net, header-fresh, rowAt-fresh}
@@ -109,7 +110,7 @@ module _ (order net : List ℕ) where
   pub load-order : orderFits order ≡ false → loadNumber order net ≡ ORDER
   unfolding loadNumber loadRefusals
   load-order o =
-      rw (refuse-held ORDER (not (orderFits order)) (ap not o), refuse-stays ORDER ROOM (not (eqb (length net) (rowStart (records order)))) (λ z. omega arith))
+      rw (refuse-held ORDER (not (orderFits order)) (ap not o), refuse-stays ORDER ROOM (not (eqb (length net) (exactLength (records order)))) (λ z. omega arith))
 
   pub load-room : orderFits order ≡ true → loadNumber order net ≡ told (roomRefusals order net)
   unfolding loadNumber loadRefusals

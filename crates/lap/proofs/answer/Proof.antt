@@ -1,35 +1,31 @@
 -- `lap::answer` is safe: the network of an order that fits the buffer fits its own.
 -- Assumes nothing.
+use Prim.Native.Nat.{_≤_}
 use native.Mathlib.Omega.{arith}
+use lib.ListN.{length}
 use borrow.Author.Needs.{needs}
+use Rattle.table.specs.Network.{rowLimit}
+use Rattle.table.proofs.Access.Fresh.{exact-mono}
 use Rattle.desk.proofs.Forms.Records.{records-within}
 use Rattle.lap.proofs.answer.Statement.{statement}
 use Rattle.lap.proofs.answer.Tie as tie
 
-mul-size : tie.Need-mul-size
-mul-size c = let a = c .before .before .before in omega (arith, c .records .ensures, records-within (a .args .order .now), a .pre)
+-- no more records than there may be rows, and room for as many
+few : (c : tie.After-records) → c .records .result ≤ rowLimit
+few c = let a = c .before .before .before in omega (arith, c .records .ensures, records-within (a .args .order .now), a .pre .0)
 
-add-size : tie.Need-add-size
-add-size c = let a = c .before .before .before in omega (arith, c .records .ensures, records-within (a .args .order .now), a .pre)
+room : (c : tie.After-exact-length) → c .exact-length .result ≤ length (c .before .before .before .before .args .net .now)
+room c =
+    let r = c .before in
+    omega (arith, c .exact-length .ensures, exact-mono (r .records .result) rowLimit (few r), r .before .before .before .pre .1)
 
-part-load-end : tie.Need-part-load-end
-part-load-end c = let a = c .before .before .before in omega (arith, c .records .ensures, records-within (a .args .order .now), a .pre)
-
-part-lap-list-end : tie.Need-part-lap-list-end
-part-lap-list-end c =
-    let r = c .before .before .before .before .before in
-    let a = r .before .before .before in
-    omega (arith, r .records .ensures, records-within (a .args .order .now), a .pre)
-
-takers-requires : tie.Need-takers-requires
-takers-requires c κs =
-    let r = c .before .before .before .before .before .before .before .before .before .before .before in
-    let a = r .before .before .before in
-    omega (arith, r .records .ensures, records-within (a .args .order .now), a .pre)
+exact-length-requires : tie.Need-exact-length-requires
+exact-length-requires c κs = omega (arith, few c)
 
 pub answer-spec : {M : Type 1} → statement M
 answer-spec =
     tie.close
-    (tie.spec (λ c κs. search needs) mul-size add-size (λ c. search needs) (λ c. search needs) part-load-end
-    (λ c κs. search needs) (λ c κs. search needs) (λ c. search needs) (λ c. search needs) (λ c. search needs) (λ c. search needs) part-lap-list-end
-    (λ c κs. search needs) (λ c κs. search needs) (λ c. search needs) (λ c. search needs) takers-requires (λ c. search needs) (λ c. search needs))
+    (tie.spec (λ c κs. search needs) exact-length-requires (λ c. search needs) (λ c. search needs) room
+    (λ c κs. search needs) (λ c κs. search needs) (λ c. search needs) (λ c. search needs) (λ c. search needs) (λ c. search needs)
+    (λ c. omega (arith, room (c .before .before .before .before .before)))
+    (λ c κs. search needs) (λ c κs. search needs) (λ c. search needs) (λ c. search needs) (λ c κs. few (c .before .before .before .before .before .before .before .before .before .before .before .before)) (λ c. search needs) (λ c. search needs))

@@ -44,6 +44,7 @@ use denote.Triple.Statement.{Contract, Triple}
 use denote.Triple.Call.{calls-at}
 use denote.Triple.Table.{entered, cited}
 use denote.Triple.Walked.{says, Stays, gave-slice, walkOf, goes-gave-slice, ends-at, walked, walk-meets}
+use Rattle.table.specs.Network.{rowLimit}
 use Rattle.desk.specs.Lap.{nodes, lapped, netAfterLap, listAfterLap, nobody as Nobody}
 use Rattle.desk.specs.declared.laps.Taker.{Taker}
 use Rattle.desk.specs.declared.laps.Lapped.{Lapped}
@@ -107,7 +108,7 @@ module _ {M : Type 1} (𝓤 : URA M) (H : Heap 𝓤) (A : Atoms 𝓤) (W : Given
     x′ = record { ptr = (l, 0); name = δ; now = Nobody }
 
     abbrev s′ : Val
-    s′ = sliceVal (l, 0) 60
+    s′ = sliceVal (l, 0) rowLimit
 
     abbrev to-lap : Lap 𝓤 H A at-mem run .Ghost
     to-lap = (((κ, (ν ∷ [], tt)), (q, (fullShare, tt)), tt, (x, (x′, tt)), (s ∷ [], (s′ ∷ [], tt))), tt)
@@ -125,7 +126,7 @@ module _ {M : Type 1} (𝓤 : URA M) (H : Heap 𝓤) (A : Atoms 𝓤) (W : Given
 
   -- what `lap` says of its answer, of the network's last bytes and of the last list
   abbrev Said : Lapped → List ℕ → List Taker → Type 0
-  Said d ns zs = (d ≡ lapped ys 60) × (ns ≡ netAfterLap ys 60) × (zs ≡ listAfterLap ys Nobody)
+  Said d ns zs = (d ≡ lapped ys rowLimit) × (ns ≡ netAfterLap ys rowLimit) × (zs ≡ listAfterLap ys Nobody)
 
   abbrev Total : Lapped → Type 0
   Total d = d .number ≡ 0 → d .total ≡ 256 + nodes ys
@@ -138,7 +139,7 @@ module _ {M : Type 1} (𝓤 : URA M) (H : Heap 𝓤) (A : Atoms 𝓤) (W : Given
     abbrev mach-back : Val
     mach-back = vstruct (ofList (w ∷ machOf zs ∷ []))
 
-    is-back : Is D.the-row d (w ∷ []) → Is (Array R 60) zs (machOf zs ∷ []) → Is G.the-row back (mach-back ∷ [])
+    is-back : Is D.the-row d (w ∷ []) → Is (Array R rowLimit) zs (machOf zs ∷ []) → Is G.the-row back (mach-back ∷ [])
     is-back is is′ = ((w ∷ [], (machOf zs ∷ [], tt)), (refl, (is, (tuples zs _ is′, tt))))
 
     exits : (ns : List ℕ) → Said d ns zs → length ns ≡ length ys → Is G.the-row back (mach-back ∷ [])
@@ -161,10 +162,10 @@ module _ {M : Type 1} (𝓤 : URA M) (H : Heap 𝓤) (A : Atoms 𝓤) (W : Given
         use0 W (raw (Blank 𝓤 H A at-mem run .pre to-blank)) goes-blank $
         calls-at ! fm (Blank 𝓤 H A at-mem run) known-blank to-blank (no-more !) (λ w₀.
         answers 𝓤 H A blank.ended (blank.clauses 𝓤 H A at-mem run) tt tt tt tt w₀ W ! tt (λ r _. heard ! (r ≡ Nobody) (λ e₀.
-        move ! (1 ∷ []) $ peeks ! (Array R 60) (Is (Array R 60)) (shows 𝓤 H A (Array R 60)) r (w₀ ∷ []) (λ is₀.
+        move ! (1 ∷ []) $ peeks ! (Array R rowLimit) (Is (Array R rowLimit)) (shows 𝓤 H A (Array R rowLimit)) r (w₀ ∷ []) (λ is₀.
         let told : w₀ ≡ machOf Nobody = ap only (list-tells r _ is₀) ∙ ap machOf e₀ in
-        let is : Is (Array R 60) Nobody (machOf Nobody ∷ []) = subst (λ (v : Val). Is (Array R 60) Nobody (v ∷ [])) told
-        (subst (λ (t : List Taker). Is (Array R 60) t (w₀ ∷ [])) e₀ is₀) in
+        let is : Is (Array R rowLimit) Nobody (machOf Nobody ∷ []) = subst (λ (v : Val). Is (Array R rowLimit) Nobody (v ∷ [])) told
+        (subst (λ (t : List Taker). Is (Array R rowLimit) t (w₀ ∷ [])) e₀ is₀) in
         land ! (from ! (stop !)) (init ! 11 refl (list-typed 𝓤 H A W r is₀)) $
         rewrite ! 11 (λ (u : Val). ‵ (fat fullShare array l₄ 0 u)) told refl $ drop ! $ drop ! $ drop ! $
         -- the arguments of `lap`
@@ -177,7 +178,7 @@ module _ {M : Type 1} (𝓤 : URA M) (H : Heap 𝓤) (A : Atoms 𝓤) (W : Given
         -- the list is taken apart, and lent for a lifetime ν of the call
         move ! (12 ∷ []) $ use1 W (‵ (row R fullShare Nobody l₂ 0)) (apart 𝓤 H A W Nobody l₂ is) $
         use1 W (‵ (cells (mem R) Nobody l₂ 0)) (whole-in 𝓤 H A W R Nobody l₂ 0) $ lft-new ! tt (λ ν. move ! (1 ∷ []) $
-        use1 W (later (some (λ (δ : GName). Lent l₂ ν δ ⊛ ‵ (flent (ν ∷ []) (Held R 60 l₂ 0 δ)))))
+        use1 W (later (some (λ (δ : GName). Lent l₂ ν δ ⊛ ‵ (flent (ν ∷ []) (Held R rowLimit l₂ 0 δ)))))
         (lends-slice 𝓤 H A W R (named 1) (ν ∷ []) Nobody l₂ 0 (lit< tt, lit< tt)) $ await ! tt $ pick ! (λ δ. split ! $
         -- [what the slice owns; the lender's part; ν's token; _8; …; _3; …; that _2 dies; _1; …; room for _0; …; the token; what net owns]
         move ! (21 ∷ []) $ fsplit ! $ move ! (22 ∷ []) $ split ! $ move ! (0 ∷ 6 ∷ 2 ∷ 4 ∷ []) $ group ! 4 $
@@ -192,9 +193,9 @@ module _ {M : Type 1} (𝓤 : URA M) (H : Heap 𝓤) (A : Atoms 𝓤) (W : Given
         -- the lifetime is ended, and the list comes back
         move ! (3 ∷ []) $ use1 W (‵ (flft κ q) ⊛ ‵ (flft (ν ∷ []) fullShare) ⊛ ‵ ftrue) (id⊢ 𝓤 _) $ split ! $ move ! (1 ∷ []) $ split ! $
         lft-end ! tt $ move ! (0 ∷ 8 ∷ 3 ∷ []) $
-        use3 W (later (‵ (Arr (mem R) 60 .lies (zs .1 .0) l₂ 0))) (slice-back 𝓤 H A W R (ν ∷ []) δ (zs .1 .0) 60 l₂ 0) $
+        use3 W (later (‵ (Arr (mem R) rowLimit .lies (zs .1 .0) l₂ 0))) (slice-back 𝓤 H A W R (ν ∷ []) δ (zs .1 .0) rowLimit l₂ 0) $
         await ! tt $ fsplit ! $ drop ! $ use1 W (‵ (row R fullShare (zs .1 .0) l₂ 0)) (whole-out 𝓤 H A W R (zs .1 .0) l₂ 0) $
-        use1 W (given (Is (Array R 60) (zs .1 .0) (machOf (zs .1 .0) ∷ [])) (‵ (fat fullShare array l₂ 0 (machOf (zs .1 .0)))))
+        use1 W (given (Is (Array R rowLimit) (zs .1 .0) (machOf (zs .1 .0) ∷ [])) (‵ (fat fullShare array l₂ 0 (machOf (zs .1 .0)))))
         (joined 𝓤 H A W (zs .1 .0) l₂ l′) $ learn ! (λ is′.
         let is-b = is-back d w (zs .1 .0) is-d is′ in
         -- [_2; true; the token; true; net's last bytes; true; true; _8; …; _3; …; that _2 dies; _1; …; room for _0; …]

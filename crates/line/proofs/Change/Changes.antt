@@ -11,12 +11,13 @@ use Rattle.card.specs.declared.packets.Packet.{Packet}
 use Rattle.line.specs.declared.passes.Event.{Event}
 use Rattle.line.specs.declared.passes.Event.the-variants.{Recovery, Message, Taken}
 use Rattle.bits.specs.Words.{pick}
-use Rattle.card.specs.Packets.{dataAt, stamped}
+use Rattle.card.specs.Packets.{dataAt, stamped, pageAt}
 use Rattle.registers.specs.Events.{heard, risenNid, cancelled, sent, enquired, transmitting, receiving, transmitPage}
 use Rattle.card.specs.Packets.{storable}
 use Rattle.card.proofs.Rows.Rams.{Small}
 use Rattle.card.proofs.Pages.Sent.{SentFrom}
-use Rattle.table.specs.Network.{phase, holder, LOST, PASS, TAKEN, turned, rowAt, onRegs, regsAt}
+use Rattle.table.specs.Rows.{rowAt}
+use Rattle.table.specs.Network.{phase, holder, LOST, PASS, TAKEN, turned, onRegs, regsAt}
 use Rattle.line.specs.Traffic.{onRow, happens, happened, takes, carriedRow, carried, stampedNet}
 use Rattle.table.proofs.Shaped.Shapes.{OnLineRow}
 
@@ -52,11 +53,11 @@ done h (Carries to broadcast k) net = carried net h to broadcast k
 abbrev pub rowDone : ℕ → Change → ℕ → List ℕ → List ℕ
 rowDone h (Reaches e) j r = onRegs (happens e j) r
 rowDone h (Does o) j r = pick (eqb j h) (onRegs (does o) r) r
-rowDone h (Stamps p) j r = pick (eqb j h) (stamped r p) r
+rowDone h (Stamps p) j r = pick (eqb j h) (stamped r (pageAt r p)) r
 rowDone h (Carries to broadcast k) j r = carriedRow h to broadcast k j r
 
 -- a packet's 512 bytes, and a COUNT that is a byte
-pub record Whole (k : Packet) : Type 0 where
+pub record WholePacket (k : Packet) : Type 0 where
   pub full : 512 ≤ length (k .bytes)
   pub count : dataAt (k .shape) < 256
   pub small : Small (k .bytes)
@@ -65,7 +66,7 @@ abbrev pub Sane : Change → Type 0
 Sane (Reaches e) = Unit {0}
 Sane (Does o) = Unit {0}
 Sane (Stamps p) = Unit {0}
-Sane (Carries to broadcast k) = Whole k
+Sane (Carries to broadcast k) = WholePacket k
 
 -- a recovery and a rise alone change NIDs
 abbrev pub keepsNid : Change → Bool
@@ -112,7 +113,7 @@ pub record Tries (start : List ℕ) : Type 0 where
 pub record Goes (start : List ℕ) (l : List Change) (to : ℕ) (k : Packet) : Type 0 where
   pub tries : Tries start
   pub once : (j : ℕ) (g : Regs) → storedBy (holder start) l j g ≡ false
-  pub whole : Whole k
+  pub whole : WholePacket k
   pub packet : SentFrom (rowAt start (holder start)) (transmitPage (cancelled (regsAt start (holder start)))) k
   pub other : to ≡ holder start → ⊥
 

@@ -1,31 +1,33 @@
 -- Each kind of change, row by row: what it does to every row, and that it keeps SHAPE, the number of rows and their IDs, who is on line, and the RAMs.
 -- Assumes nothing.
-use mathlib.Core.Path.{_≡_, refl, sym, _∙_, ap}
+use mathlib.Core.Path.{_≡_, refl, _∙_, ap}
 use mathlib.Core.Bool.{Bool, true, false, false≢true}
 use mathlib.Core.List.{List}
 use mathlib.Core.Logic.{⊎-elim}
 use Prim.Native.Nat.{ℕ, _<_}
-use native.Mathlib.Omega.{arith}
 use lib.Dec.{eqb}
-use lib.ListN.{length, getD}
 use borrow.Author.Tests.{eqb-true, eqb-false, eq-eqb, ne-eqb}
 use Rattle.registers.specs.declared.regs.Regs.{Regs}
 use Rattle.line.specs.declared.passes.Event.{Event}
 use Rattle.line.specs.declared.passes.Event.the-variants.{Recovery, Message, Taken}
 use Rattle.bits.specs.Words.{pick}
-use Rattle.card.specs.Row.{rowBytes, regsOf, wellFormed}
-use Rattle.card.specs.Packets.{stamped}
+use Rattle.card.specs.Row.{Whole, regsOf, wellFormed}
+use Rattle.card.specs.Packets.{pageAt, stamped}
 use Rattle.bits.proofs.Words.Bools.{cases}
-use Rattle.card.proofs.Rows.Bytes.{length-put, regs-put, well-fit}
+use Rattle.card.proofs.Rows.Sizes.{SameSize, size-same, whole-registers}
+use Rattle.card.proofs.Pages.Places.{page-behind}
+use Rattle.card.proofs.Rows.Bytes.{size-put, regs-put, well-fit}
 use Rattle.registers.proofs.Values.Fits.{Fit, fit-rules}
 use Rattle.card.proofs.Rows.WellFormed.{well-stamped, regs-stamped}
-use Rattle.card.proofs.Pages.Stored.{length-stamped}
+use Rattle.card.proofs.Pages.Stored.{size-stamped}
 use Rattle.card.proofs.Rows.Rams.{ram-stamped}
-use Rattle.table.specs.Network.{headerBytes, rows, holder, rowAt, setRow, onRegs, regsAt, shape}
-use Rattle.line.specs.Traffic.{onRow, happens, happened, carriedRow, carried}
-use Rattle.table.proofs.Rows.Networks.{length-setRow, setRow-header, rowAt-setRow, rowAt-setRow-other}
-use Rattle.table.proofs.Rows.EachRow.{reached}
-use Rattle.table.proofs.Shaped.Shapes.{shape-length, shape-within, shape-row, shape-row-length}
+use Rattle.table.specs.Rows.{rowAt, setRow, eachRow}
+use Rattle.table.specs.Network.{rows, holder, onRegs, regsAt, shape}
+use Rattle.line.specs.Traffic.{onRow, happens, happened, carried}
+use Rattle.table.proofs.Rows.Starts.{Frame}
+use Rattle.table.proofs.Rows.WithRows.{rowAt-setRow, rowAt-setRow-other, setRow-frame}
+use Rattle.table.proofs.Rows.Order.{each-row, each-frame}
+use Rattle.table.proofs.Shaped.Shapes.{shape-room, shape-row, shape-row-whole}
 use Rattle.table.proofs.Shaped.Kept.{Became}
 use Rattle.table.proofs.Shaped.Became.{Moved, Still, still-same, still-regs, became-rows, shape-moved}
 use Rattle.line.proofs.Change.Registers.{MovedBy, StillBy, row-moved, row-still, still-sent, still-asked, still-heard-sent, still-cancelled, still-message, still-taken, moved-risen, reaches}
@@ -35,20 +37,20 @@ use Rattle.line.proofs.Change.Changes.{Own, Rises, Cancels, Enquires, E
 
 -- ---- a row: as long, kept, with a RAM of bytes; and with its NID, where n says so
 record Fine (r : List ℕ) (n : Bool) (s : List ℕ) : Type 0 where
-  long : length s ≡ rowBytes
+  size : SameSize r s
   moved : Moved r s
   nid : n ≡ true → regsOf s .nid ≡ regsOf r .nid
 
-module _ (r : List ℕ) (l : length r ≡ rowBytes) (w : wellFormed r ≡ true) where
-  fine-still : (s : List ℕ) → length s ≡ rowBytes → Still r s → Fine r true s
-  fine-still s e q = record { long = e; moved = q .moved; nid = λ _. q .nid }
+module _ (r : List ℕ) (l : Whole r) (w : wellFormed r ≡ true) where
+  fine-still : (s : List ℕ) → SameSize r s → Still r s → Fine r true s
+  fine-still s e q = record { size = e; moved = q .moved; nid = λ _. q .nid }
 
   fine-stays : (f : Regs → Regs) → StillBy f → Fine r true (onRegs f r)
-  fine-stays f q = fine-still _ (length-put r _ ∙ l) (row-still r l w _ (q (regsOf r) (fit-rules (regsOf r) (well-fit r w))))
+  fine-stays f q = fine-still _ (size-put r _) (row-still r l w _ (q (regsOf r) (fit-rules (regsOf r) (well-fit r w))))
 
   fine-keeps : (f : Regs → Regs) → MovedBy f → Fine r false (onRegs f r)
   fine-keeps f q = record {
-    long = length-put r _ ∙ l;
+    size = size-put r _;
     moved = row-moved r l w _ (q (regsOf r) (fit-rules (regsOf r) (well-fit r w)));
     nid = λ e. absurd (false≢true e);
   }
@@ -56,7 +58,7 @@ module _ (r : List ℕ) (l : length r ≡ rowBytes) (w : wellFormed r ≡ true) 
   -- the holder's row, or another
   fine-pick : (n : Bool) (s : List ℕ) (b : Bool) → Fine r n s → Fine r n (pick b s r)
   fine-pick n s true q = q
-  fine-pick n s false q = let e = still-same r w in record { long = l; moved = e .moved; nid = λ _. refl }
+  fine-pick n s false q = let e = still-same r w in record { size = size-same r; moved = e .moved; nid = λ _. refl }
 
   fine : (h : ℕ) (c : Change) → Sane c → (j : ℕ) → Fine r (keepsNid c) (rowDone h c j r)
   fine h (Reaches Recovery) a j = fine-keeps _ (reaches Recovery j)
@@ -69,7 +71,8 @@ module _ (r : List ℕ) (l : length r ≡ rowBytes) (w : wellFormed r ≡ true) 
   fine h (Does (Ends false x)) a j = fine-pick true _ (eqb j h) (fine-stays _ (still-sent x))
   fine h (Stamps p) a j =
       fine-pick true _ (eqb j h)
-      (fine-still _ (length-stamped r p ∙ l) (still-regs r _ (well-stamped r l w p) (regs-stamped r l p) (λ i b. ram-stamped r b p i)))
+      (let a = pageAt r p in let low = page-behind r p in
+      fine-still _ (size-stamped r a low) (still-regs r _ (well-stamped r l w a low) (regs-stamped r l a low) (λ i b. ram-stamped r b a i)))
   fine h (Carries to broadcast k) a j =
       let q = carried-still k (a .full) (a .count) (a .small) h to broadcast j r l w in fine-still _ (q .0) (q .1)
 
@@ -78,42 +81,44 @@ module _ (r : List ℕ) (l : length r ≡ rowBytes) (w : wellFormed r ≡ true) 
 
 -- ---- a network: each row is changed so, and all else is as it was
 pub record Made (h : ℕ) (net : List ℕ) (c : Change) : Type 0 where
-  pub long : length (done h c net) ≡ length net
-  pub header : (x : ℕ) → x < headerBytes → getD (done h c net) x 0 ≡ getD net x 0
+  pub frame : Frame net (done h c net) (rows net)
   pub row : (j : ℕ) → j < rows net → rowAt (done h c net) j ≡ rowDone h c j (rowAt net j)
 
 module _ (net : List ℕ) (h : ℕ) (s : shape net ≡ true) (l : h < rows net) where
   fine-row : (c : Change) → Sane c → (j : ℕ) → j < rows net → Fine (rowAt net j) (keepsNid c) (rowDone h c j (rowAt net j))
-  fine-row c a j b = fine (rowAt net j) (shape-row-length net s j b) (shape-row net s j b) h c a j
+  fine-row c a j b = fine (rowAt net j) (shape-row-whole net s j b) (shape-row net s j b) h c a j
 
   -- row h is given other bytes
   made-set : (c : Change) → Sane c → (f : List ℕ → List ℕ) → ((j : ℕ) (r : List ℕ) → rowDone h c j r ≡ pick (eqb j h) (f r) r)
       → done h c net ≡ setRow net h (f (rowAt net h)) → Made h net c
   made-set c a f is new =
-      let w = shape-within net s h l in
+      let w = shape-room net s in
       let r = f (rowAt net h) in
       let i : rowDone h c h (rowAt net h) ≡ r = is h (rowAt net h) ∙ rw (eq-eqb h h refl) in
-      let e : length r ≡ rowBytes = ap length (sym i) ∙ fine-row c a h l .long in record {
-        long = rw new (length-setRow net h r w e);
-        header = rw new (setRow-header net h r w e);
-        row = λ j b. rw (new, is j (rowAt net j)) (⊎-elim (λ (t : eqb j h ≡ true). rw (t, eqb-true j h t) (rowAt-setRow net h r w e))
-            (λ (t : eqb j h ≡ false). rw t (rowAt-setRow-other net h r w e j (eqb-false j h t) (shape-within net s j b))) (cases (eqb j h)));
+      let e : SameSize (rowAt net h) r = rw i at (fine-row c a h l .size) in record {
+        frame = rw new (setRow-frame net (rows net) w h l r e);
+        row = λ j b. rw (new, is j (rowAt net j)) (⊎-elim (λ (t : eqb j h ≡ true). rw (t, eqb-true j h t) (rowAt-setRow net (rows net) w h l r e))
+            (λ (t : eqb j h ≡ false). rw t (rowAt-setRow-other net (rows net) w h l r e j b (eqb-false j h t))) (cases (eqb j h)));
+      }
+
+  -- each row is given other bytes
+  made-each : (c : Change) → Sane c → done h c net ≡ eachRow (rowDone h c) net (rows net) → Made h net c
+  made-each c a new =
+      let keeps : (j : ℕ) → j < rows net → SameSize (rowAt net j) (rowDone h c j (rowAt net j)) = λ j b. fine-row c a j b .size in record {
+        frame = rw new (each-frame net (rows net) (shape-room net s) (rowDone h c) keeps);
+        row = λ j b. rw new (each-row net (rows net) (shape-room net s) (rowDone h c) keeps j b);
       }
 
   pub made : (c : Change) → Sane c → Made h net c
   unfolding happened onRow carried
-  made (Reaches e) a =
-      let d = reached (λ k r. onRegs (happens e k) r) net (rows net) (omega (arith, shape-length net s)) (λ j b. fine-row (Reaches e) a j b .long) in
-      record { long = d .long; header = d .header; row = d .row }
+  made (Reaches e) a = made-each (Reaches e) a refl
   made (Does o) a = made-set (Does o) a (onRegs (does o)) (λ j r. refl) refl
-  made (Stamps p) a = made-set (Stamps p) a (λ r. stamped r p) (λ j r. refl) refl
-  made (Carries to broadcast k) a =
-      let d = reached (carriedRow h to broadcast k) net (rows net) (omega (arith, shape-length net s)) (λ j b. fine-row (Carries to broadcast k) a j b .long) in
-      record { long = d .long; header = d .header; row = d .row }
+  made (Stamps p) a = made-set (Stamps p) a (λ r. stamped r (pageAt r p)) (λ j r. refl) refl
+  made (Carries to broadcast k) a = made-each (Carries to broadcast k) a refl
 
   module _ (c : Change) (a : Sane c) where
     pub moved-done : Became Moved net (done h c net)
-    moved-done = let m = made c a in record { long = m .long; header = m .header; row = λ j b. rw (m .row j b) (fine-row c a j b .moved) }
+    moved-done = let m = made c a in record { frame = m .frame; row = λ j b. rw (m .row j b) (fine-row c a j b .moved) }
 
     pub shape-done : shape (done h c net) ≡ true
     shape-done = shape-moved s moved-done
@@ -126,7 +131,7 @@ module _ (net : List ℕ) (h : ℕ) (s : shape net ≡ true) (l : h < rows net) 
   own-row o = made (Does o) tt .row h l ∙ rw (eq-eqb h h refl)
 
   pub own-here : (o : Own) → regsAt (onRow net h (does o)) h ≡ does o (regsAt net h)
-  own-here o = ap regsOf (own-row o) ∙ regs-put (rowAt net h) _ (omega (arith, shape-row-length net s h l))
+  own-here o = ap regsOf (own-row o) ∙ regs-put (rowAt net h) _ (whole-registers _ (shape-row-whole net s h l))
 
   pub own-there : (o : Own) (j : ℕ) → j < rows net → (j ≡ h → ⊥) → rowAt (onRow net h (does o)) j ≡ rowAt net j
   own-there o j b n = made (Does o) tt .row j b ∙ rw (ne-eqb j h n)
@@ -145,4 +150,4 @@ module _ (net : List ℕ) (e : Event) (s : shape net ≡ true) where
   pub happened-here : (j : ℕ) → j < rows net → regsAt (happened net e) j ≡ happens e j (regsAt net j)
   happened-here j b =
       ap regsOf (made net (holder net) s (held-row net s) (Reaches e) tt .row j b)
-      ∙ regs-put (rowAt net j) _ (omega (arith, shape-row-length net s j b))
+      ∙ regs-put (rowAt net j) _ (whole-registers _ (shape-row-whole net s j b))

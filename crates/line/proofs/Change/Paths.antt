@@ -5,15 +5,16 @@ use mathlib.Core.Bool.{true}
 use mathlib.Core.List.{List, [], _∷_}
 use Prim.Native.Nat.{ℕ, _<_}
 use native.Mathlib.Omega.{arith}
-use lib.ListN.{length}
 use Rattle.line.specs.declared.passes.Event.the-variants.{Recovery, Message, Taken}
-use Rattle.card.specs.Row.{rowBytes, regsOf, wellFormed}
+use Rattle.card.specs.Row.{regsOf, wellFormed, Whole}
 use Rattle.bits.proofs.Words.Bools.{and-left, and-right}
-use Rattle.table.specs.Network.{rows, phase, holder, TAKEN, rowAt, regsAt, shape, SameFrame}
+use Rattle.table.specs.Rows.{rowAt}
+use Rattle.table.specs.Network.{rows, phase, holder, TAKEN, regsAt, shape, SameFrame}
 use Rattle.table.proofs.Rows.Networks.{length-turned, rowAt-turned, turned-other}
-use Rattle.table.proofs.Shaped.Shapes.{shape-row, shape-row-length}
+use Rattle.table.proofs.Shaped.Shapes.{shape-row, shape-row-whole}
 use Rattle.table.proofs.Shaped.Kept.{shape-turned}
 use Rattle.table.proofs.Shaped.Alike.{Rams, Alike, alike-same, alike-then, alike-moved, alike-turned}
+use Rattle.table.proofs.Rows.Starts.{frame-byte}
 use Rattle.line.proofs.Steps.Stepped.{held-row}
 use Rattle.line.proofs.Change.Changes.{Rises, Cancels, Enquires, Ends, Change, Reaches, Does, Stamps, Carries, rowDone, keepsNid, Allowed, sane, Path, begin, more, turn, keepNids}
 use Rattle.line.proofs.Change.Made.{done-nid, Made, made, moved-done}
@@ -40,21 +41,21 @@ module _ (start : List ℕ) (s : shape start ≡ true) (b : Rams start) where
   frame (more p c a) =
       let f = frame p in
       let m = next p c a in
-      record { size = m .long ∙ f .size; header = λ i h x y. m .header i h ∙ f .header i h x y }
+      record { size = m .frame .size ∙ f .size; header = λ i h x y. frame-byte (m .frame) i h ∙ f .header i h x y }
   frame (turn {net = net} p x t a) =
       let f = frame p in
       record { size = length-turned net x t ∙ f .size; header = λ i h u v. turned-other net x t i u v ∙ f .header i h u v }
 
   -- what holds of each row at the start, and through each change that is made to a well formed row, holds at the end
   module _ (Q : List Change → ℕ → List ℕ → Type 0) (at-first : (j : ℕ) → j < rows start → Q [] j (rowAt start j))
-      (each : (l : List Change) (c : Change) → Allowed start l c → (j : ℕ) (r : List ℕ) → length r ≡ rowBytes → wellFormed r ≡ true
+      (each : (l : List Change) (c : Change) → Allowed start l c → (j : ℕ) (r : List ℕ) → Whole r → wellFormed r ≡ true
       → Q l j r → Q (c ∷ l) j (rowDone (holder start) c j r)) where
     pub by-rows : {l : List Change} {net : List ℕ} → Path start l net → (j : ℕ) → j < rows start → Q l j (rowAt net j)
     by-rows begin j lj = at-first j lj
     by-rows (more {l = l} {net = net} p c a) j lj =
         let q = sound p in
         let i : j < rows net = omega (arith, q .count) in
-        rw (next p c a .row j i) (each l c a j (rowAt net j) (shape-row-length net (q .fits) j i) (shape-row net (q .fits) j i) (by-rows p j lj))
+        rw (next p c a .row j i) (each l c a j (rowAt net j) (shape-row-whole net (q .fits) j i) (shape-row net (q .fits) j i) (by-rows p j lj))
     by-rows (turn {net = net} p x t a) j lj = rw (rowAt-turned net x t j) (by-rows p j lj)
 
   -- changes that keep the NIDs; and in TAKEN all do

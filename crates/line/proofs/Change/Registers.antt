@@ -4,13 +4,11 @@ use mathlib.Core.Path.{_≡_, _∙_, ap}
 use mathlib.Core.Bool.{Bool, true, false}
 use mathlib.Core.List.{List}
 use Prim.Native.Nat.{ℕ}
-use native.Mathlib.Omega.{arith}
 use lib.Dec.{eqb}
-use lib.ListN.{length}
 use Rattle.registers.specs.declared.regs.Regs.{Regs}
 use Rattle.line.specs.declared.passes.Event.{Event}
 use Rattle.line.specs.declared.passes.Event.the-variants.{Recovery, Message, Taken}
-use Rattle.card.specs.Row.{rowBytes, regsOf, putRegs, wellFormed}
+use Rattle.card.specs.Row.{regsOf, putRegs, wellFormed, Whole}
 use Rattle.registers.specs.Fit.{onLine}
 use Rattle.registers.specs.Events.{heard, risenNid, received, cancelled, sent, enquired}
 use Rattle.bits.proofs.Words.Bools.{pick-of}
@@ -21,6 +19,7 @@ use Rattle.registers.proofs.Values.SameCard as card
 use Rattle.registers.proofs.Values.Ends.{enquired-nak, enquired-unanswered}
 use Rattle.card.proofs.Rows.WellFormed.{well-regs}
 use Rattle.card.proofs.Rows.Rams.{ram-put}
+use Rattle.card.proofs.Rows.Sizes.{whole-registers}
 use Rattle.line.specs.Traffic.{happens}
 use Rattle.table.proofs.Shaped.Became.{Moved, Still}
 
@@ -30,9 +29,9 @@ pub record FitNode (g h : Regs) : Type 0 where
   pub id : h .id ≡ g .id
   pub configuration : h .configuration ≡ g .configuration
 
-pub row-moved : (r : List ℕ) → length r ≡ rowBytes → wellFormed r ≡ true → (g : Regs) → FitNode (regsOf r) g → Moved r (putRegs r g)
+pub row-moved : (r : List ℕ) → Whole r → wellFormed r ≡ true → (g : Regs) → FitNode (regsOf r) g → Moved r (putRegs r g)
 row-moved r l w g s =
-    let e : regsOf (putRegs r g) ≡ g = regs-put r g (omega arith) in
+    let e : regsOf (putRegs r g) ≡ g = regs-put r g (whole-registers r l) in
     record {
       kept = record {
         well = well-regs r l w g (s .fits);
@@ -50,10 +49,10 @@ pub record FitCard (g h : Regs) : Type 0 where
 same-of : (g h : Regs) → FitCard g h → FitNode g h
 same-of g h c = record { fits = c .fits; id = c .kept .id; configuration = c .kept .configuration }
 
-pub row-still : (r : List ℕ) → length r ≡ rowBytes → wellFormed r ≡ true → (g : Regs) → FitCard (regsOf r) g → Still r (putRegs r g)
+pub row-still : (r : List ℕ) → Whole r → wellFormed r ≡ true → (g : Regs) → FitCard (regsOf r) g → Still r (putRegs r g)
 row-still r l w g c = record {
   moved = row-moved r l w g (same-of (regsOf r) g c);
-  nid = ap (λ (x : Regs). x .nid) (regs-put r g (omega arith)) ∙ c .kept .nid;
+  nid = ap (λ (x : Regs). x .nid) (regs-put r g (whole-registers r l)) ∙ c .kept .nid;
 }
 
 -- ---- changes that leave such registers

@@ -6,18 +6,18 @@ use mathlib.Core.List.{List, [], _∷_}
 use Prim.Native.Nat.{ℕ}
 use native.Mathlib.Omega.{arith}
 use lib.Dec.{eqb}
-use lib.ListN.{length}
 use borrow.Author.Tests.{eqb-true, eqb-false, eq-eqb}
 use Rattle.line.specs.declared.passes.Event.{Event}
 use Rattle.line.specs.declared.passes.Event.the-variants.{Recovery, Message, Taken}
 use Rattle.bits.specs.Words.{pick, among}
 use Rattle.registers.specs.Layout.{at-status, at-diagnostic, at-nid}
 use Rattle.registers.specs.Events.{risenNid}
-use Rattle.card.specs.Row.{rowBytes, regsOf}
+use Rattle.card.specs.Row.{regsOf, Whole}
 use Rattle.card.specs.Moves.{OnlyAt}
 use Rattle.bits.proofs.Words.Bools.{or-left, or-right, or-false, pick-of, pick-both}
 use Rattle.registers.proofs.Values.Keeps.{Keeps, keeps-same, keeps-recovered, keeps-heard, keeps-answered, keeps-risen}
 use Rattle.card.proofs.Rows.Moves.{only-stays, only-wider, only-put}
+use Rattle.card.proofs.Rows.Sizes.{whole-registers}
 use Rattle.table.specs.Network.{phase, holder, LOST, PASS, TAKEN, onRegs, shape}
 use Rattle.table.proofs.Shaped.Shapes.{shape-phase}
 use Rattle.line.specs.Traffic.{happens}
@@ -44,21 +44,21 @@ module _ (net : List ℕ) (s : shape net ≡ true) (j : ℕ) (aside : phase net 
       (λ u. pick-of P (eqb j h) (λ v. absurd (aside (taken t u) (eqb-true j h v))) (λ _. here _)))
 
   -- an event
-  pub event-moves : (e : Event) → Comes net e → (x : Bool) (r : List ℕ) → length r ≡ rowBytes → Moves x r (onRegs (happens e j) r)
+  pub event-moves : (e : Event) → Comes net e → (x : Bool) (r : List ℕ) → Whole r → Moves x r (onRegs (happens e j) r)
   event-moves Recovery a x r l =
-      only-wider r _ (λ i e. rw (eq-eqb (phase net) LOST a) at e) (only-put (at-status ∷ at-nid ∷ []) r _ (omega arith) (keeps-recovered _ (regsOf r) refl refl))
+      only-wider r _ (λ i e. rw (eq-eqb (phase net) LOST a) at e) (only-put (at-status ∷ at-nid ∷ []) r _ (whole-registers r l) (keeps-recovered _ (regsOf r) refl refl))
   event-moves (Message k token) a x r l =
       only-wider r _ (heard-moves (a .1) x)
-      (only-put (at-diagnostic ∷ []) r _ (omega arith) (pick-of (Keeps (at-diagnostic ∷ []) (regsOf r)) (eqb j k) (λ _. keeps-same _ (regsOf r)) (λ _. keeps-heard _ (regsOf r) refl token)))
+      (only-put (at-diagnostic ∷ []) r _ (whole-registers r l) (pick-of (Keeps (at-diagnostic ∷ []) (regsOf r)) (eqb j k) (λ _. keeps-same _ (regsOf r)) (λ _. keeps-heard _ (regsOf r) refl token)))
   event-moves (Taken n t) a x r l =
-      only-wider r _ (heard-moves (λ e. omega (arith, a, e)) x) (only-put (at-diagnostic ∷ []) r _ (omega arith) (keeps-answered _ (regsOf r) refl n (eqb j t)))
+      only-wider r _ (heard-moves (λ e. omega (arith, a, e)) x) (only-put (at-diagnostic ∷ []) r _ (whole-registers r l) (keeps-answered _ (regsOf r) refl n (eqb j t)))
 
   -- the holder's NID rises in PASS
-  pub rise-moves : phase net ≡ PASS → (x : Bool) (r : List ℕ) → length r ≡ rowBytes → Moves x r (pick (eqb j h) (onRegs risenNid r) r)
+  pub rise-moves : phase net ≡ PASS → (x : Bool) (r : List ℕ) → Whole r → Moves x r (pick (eqb j h) (onRegs risenNid r) r)
   rise-moves p x r l =
       pick-of (Moves x r) (eqb j h)
       (λ t. only-wider r _ (λ i e. let f : (eqb i at-diagnostic || eqb i at-nid) ≡ false = rw (p, t) at e in rw (or-right (eqb i at-diagnostic) (eqb i at-nid) f))
-      (only-put (at-nid ∷ []) r _ (omega arith) (keeps-risen _ (regsOf r) refl)))
+      (only-put (at-nid ∷ []) r _ (whole-registers r l) (keeps-risen _ (regsOf r) refl)))
       (λ _. only-stays _ r)
 
   -- a row that stores a packet may move all that another may

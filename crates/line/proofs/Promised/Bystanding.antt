@@ -4,9 +4,7 @@ use mathlib.Core.Path.{_≡_, refl, _∙_, ap}
 use mathlib.Core.Bool.{Bool, true, false, _||_}
 use mathlib.Core.List.{List, _∷_}
 use Prim.Native.Nat.{ℕ, _<_}
-use native.Mathlib.Omega.{arith}
 use lib.Dec.{eqb}
-use lib.ListN.{length}
 use borrow.Author.Tests.{eqb-true}
 use Rattle.registers.specs.declared.regs.Regs.{Regs}
 use Rattle.card.specs.declared.packets.Packet.{Packet}
@@ -14,7 +12,7 @@ use Rattle.line.specs.declared.passes.Event.{Event}
 use Rattle.line.specs.declared.passes.Event.the-variants.{Recovery, Message, Taken}
 use Rattle.bits.specs.Words.{pick}
 use Rattle.registers.specs.Events.{receiving}
-use Rattle.card.specs.Row.{rowBytes, regsOf, putRegs, wellFormed}
+use Rattle.card.specs.Row.{regsOf, putRegs, wellFormed, Whole}
 use Rattle.card.specs.Packets.{stored}
 use Rattle.card.specs.Moves.{OnlyAt}
 use Rattle.bits.proofs.Words.Bools.{or-false, pick-of}
@@ -22,7 +20,9 @@ use Rattle.registers.proofs.Values.Listens.{Listens, listens-same, listens-reco
 use Rattle.card.proofs.Rows.Bytes.{regs-put}
 use Rattle.card.proofs.Rows.Moves.{only-stays, only-then, only-wider}
 use Rattle.card.proofs.Rows.Bystanders.{Bystander, bystander-same, bystander-then, bystander-put, Storing, stores-then}
-use Rattle.table.specs.Network.{rows, phase, holder, TAKEN, rowAt, regsAt, shape}
+use Rattle.card.proofs.Rows.Sizes.{whole-registers}
+use Rattle.table.specs.Rows.{rowAt}
+use Rattle.table.specs.Network.{rows, phase, holder, TAKEN, regsAt, shape}
 use Rattle.line.specs.Traffic.{happens, carriedRow}
 use Rattle.line.specs.Step.{step}
 use Rattle.line.specs.Outcomes.{sender, sentPage, stores, rowMoves}
@@ -50,10 +50,10 @@ module _ (net : List ℕ) (s : shape net ≡ true) (b : Rams net) (fault : ℕ) 
   Watches true r t = Storing (sender net) (sentPage net) r t
   Watches false r t = Bystander r t × (Receives t ≡ Receives r)
 
-  watches-put : (x : Bool) (r t : List ℕ) → length t ≡ rowBytes → (g : Regs) → Listens (regsOf t) g → Watches x r t → Watches x r (putRegs t g)
+  watches-put : (x : Bool) (r t : List ℕ) → Whole t → (g : Regs) → Listens (regsOf t) g → Watches x r t → Watches x r (putRegs t g)
   watches-put x r t l g e =
-      let m = bystander-put t g (omega arith) (e .wakes) in
-      let i = ap receiving (regs-put t g (omega arith)) ∙ e .receives in
+      let m = bystander-put t g (whole-registers t l) (e .wakes) in
+      let i = ap receiving (regs-put t g (whole-registers t l)) ∙ e .receives in
       on x m i
     where
       on : (x : Bool) → Bystander t (putRegs t g) → Receives (putRegs t g) ≡ Receives t → Watches x r t → Watches x r (putRegs t g)
@@ -69,7 +69,7 @@ module _ (net : List ℕ) (s : shape net ≡ true) (b : Rams net) (fault : ℕ) 
       watches : Watches x (rowAt net j) r
       moves : Moves x (rowAt net j) r
 
-    module _ (l : List Change) (r : List ℕ) (m : length r ≡ rowBytes) (w : wellFormed r ≡ true) (q : Seen (storedBy h l j (regsAt net j)) r) where
+    module _ (l : List Change) (r : List ℕ) (m : Whole r) (w : wellFormed r ≡ true) (q : Seen (storedBy h l j (regsAt net j)) r) where
       abbrev x : Bool
       x = storedBy h l j (regsAt net j)
 

@@ -15,7 +15,8 @@ use Rattle.registers.specs.Events.{cancelled, transmitting}
 use Rattle.card.specs.Packets.{malformed}
 use Rattle.card.specs.Moves.{OnlyAt}
 use Rattle.bits.proofs.Words.Bools.{cases, and-false, pick-of}
-use Rattle.table.specs.Network.{rows, phase, holder, LOST, PASS, TAKEN, rowAt, regsAt, topId, shape}
+use Rattle.table.specs.Rows.{rowAt}
+use Rattle.table.specs.Network.{rows, phase, holder, LOST, PASS, TAKEN, regsAt, topId, shape}
 use Rattle.table.proofs.Online.Nodes.{nodeOf-found}
 use Rattle.table.proofs.Shaped.Shapes.{shape-phase}
 use Rattle.table.proofs.Shaped.Alike.{Rams}

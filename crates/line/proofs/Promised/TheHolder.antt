@@ -19,7 +19,7 @@ use Rattle.bits.specs.Words.{pick, has, among}
 use Rattle.bits.specs.Flags.{CCHEN}
 use Rattle.registers.specs.Sides.{chaining}
 use Rattle.registers.specs.Events.{heard, receiving, takesBroadcasts}
-use Rattle.card.specs.Row.{registerBytes, rowBytes, regsOf, putRegs, wellFormed}
+use Rattle.card.specs.Row.{registerBytes, regsOf, putRegs, wellFormed, Whole}
 use Rattle.card.specs.Packets.{pageAt, storable}
 use Rattle.card.specs.Moves.{OnlyAt}
 use Rattle.bits.proofs.Words.Bools.{cases, and-left, and-right, or-left, or-right, pick-of}
@@ -27,10 +27,14 @@ use Rattle.registers.proofs.Values.Fits.{Fit, fit-rules, rules-fit}
 use Rattle.registers.proofs.Values.Unqueued.{unqueued-fit}
 use Rattle.registers.proofs.Values.Chained.{keeps-chained}
 use Rattle.registers.proofs.Values.Keeps.{Keeps, keeps-same, keeps-cancelled, keeps-enquired, keeps-heard-sent, keeps-sent}
-use Rattle.card.proofs.Rows.Bytes.{regs-put, well-fit}
+use Rattle.card.proofs.Rows.Bytes.{regs-put, well-fit, size-put}
 use Rattle.card.proofs.Rows.WellFormed.{regs-stamped}
 use Rattle.card.proofs.Rows.Moves.{only-stays, only-then, only-wider, only-put, only-stamped}
-use Rattle.table.specs.Network.{phase, holder, TAKEN, rowAt, onRegs, regsAt, shape}
+use Rattle.card.proofs.Rows.Sizes.{SameSize, size-same, size-then, whole-registers}
+use Rattle.card.proofs.Pages.Places.{page-behind, place-same}
+use Rattle.card.proofs.Pages.Stored.{size-stamped}
+use Rattle.table.specs.Rows.{rowAt}
+use Rattle.table.specs.Network.{phase, holder, TAKEN, onRegs, regsAt, shape}
 use Rattle.line.specs.Traffic.{happens, carriedRow}
 use Rattle.line.specs.Step.{step}
 use Rattle.line.specs.Outcomes.{sentPage, stores, holderBytes, rowMoves, holderAfter, HolderLeft}
@@ -66,7 +70,7 @@ module _ (net : List ℕ) (p : phase net ≡ TAKEN) where
   registers-moved = holderBytes (chaining (regsAt net h))
 
   -- what the holder's row may move
-  may : (x : Bool) (i : ℕ) → rowMoves net x h i ≡ false → (among registers-moved i || eqb i (pageAt (sentPage net))) ≡ false
+  may : (x : Bool) (i : ℕ) → rowMoves net x h i ≡ false → (among registers-moved i || eqb i (pageAt (rowAt net h) (sentPage net))) ≡ false
   may x i e = rw (p, eq-eqb h h refl) at e
 
   only-registers : (x : Bool) (r : List ℕ) (g : Regs) → registerBytes ≤ length r → Keeps registers-moved (regsOf r) g → OnlyAt (rowMoves net x h) r (putRegs r g)
@@ -97,9 +101,10 @@ module _ (net : List ℕ) (p : phase net ≡ TAKEN) where
   record Left (x : Bool) (f : Regs → Regs) (r : List ℕ) : Type 0 where
     registers : regsOf r ≡ f (regsAt net h)
     chains : chaining (regsOf r) ≡ chaining (regsAt net h)
+    size : SameSize (rowAt net h) r
     moves : OnlyAt (rowMoves net x h) (rowAt net h) r
 
-  module _ (x : Bool) (l : List Change) (r : List ℕ) (m : length r ≡ rowBytes) (w : wellFormed r ≡ true) (q : Left x (allDone l) r) where
+  module _ (x : Bool) (l : List Change) (r : List ℕ) (m : Whole r) (w : wellFormed r ≡ true) (q : Left x (allDone l) r) where
     then : (s : List ℕ) → OnlyAt (rowMoves net x h) r s → OnlyAt (rowMoves net x h) (rowAt net h) s
     then s o = only-then (rowAt net h) r s (q .moves) o
 
@@ -108,9 +113,10 @@ module _ (net : List ℕ) (p : phase net ≡ TAKEN) where
     own-event (Message k token) a =
         let t : pick (eqb h k) (regsOf r) (heard (regsOf r) token) ≡ regsOf r = rw (a .0, eq-eqb h h refl) in
         record {
-          registers = regs-put r _ (omega arith) ∙ t ∙ q .registers;
-          chains = ap chaining (regs-put r _ (omega arith) ∙ t) ∙ q .chains;
-          moves = then _ (only-registers x r _ (omega arith) (rw t (keeps-same _ (regsOf r))));
+          registers = regs-put r _ (whole-registers r m) ∙ t ∙ q .registers;
+          chains = ap chaining (regs-put r _ (whole-registers r m) ∙ t) ∙ q .chains;
+          size = size-then (q .size) (size-put r _);
+          moves = then _ (only-registers x r _ (whole-registers r m) (rw t (keeps-same _ (regsOf r))));
         }
     own-event (Taken i t) a = absurd (omega (arith, p, a))
 
@@ -119,23 +125,25 @@ module _ (net : List ℕ) (p : phase net ≡ TAKEN) where
     own-changes (Does o) a =
         let f = fit-rules (regsOf r) (well-fit r w) in
         rw (eq-eqb h h refl) (record {
-          registers = regs-put r _ (omega arith) ∙ ap (does o) (q .registers);
-          chains = ap chaining (regs-put r _ (omega arith)) ∙ ap (has CCHEN) (own-still l o a (regsOf r) f .kept .configuration) ∙ q .chains;
-          moves = then _ (only-registers x r _ (omega arith) (own-keeps l o a (regsOf r) f (q .chains)));
+          registers = regs-put r _ (whole-registers r m) ∙ ap (does o) (q .registers);
+          chains = ap chaining (regs-put r _ (whole-registers r m)) ∙ ap (has CCHEN) (own-still l o a (regsOf r) f .kept .configuration) ∙ q .chains;
+          size = size-then (q .size) (size-put r _);
+          moves = then _ (only-registers x r _ (whole-registers r m) (own-keeps l o a (regsOf r) f (q .chains)));
         })
     own-changes (Stamps y) a =
         rw (eq-eqb h h refl) (record {
-          registers = regs-stamped r m y ∙ q .registers;
-          chains = ap chaining (regs-stamped r m y) ∙ q .chains;
-          moves = then _ (only-wider r _ (λ i e. rw (a .1) (or-right (among registers-moved i) _ (may x i e))) (only-stamped r y));
+          registers = regs-stamped r m (pageAt r y) (page-behind r y) ∙ q .registers;
+          chains = ap chaining (regs-stamped r m (pageAt r y) (page-behind r y)) ∙ q .chains;
+          size = size-then (q .size) (size-stamped r (pageAt r y) (page-behind r y));
+          moves = then _ (only-wider r _ (λ i e. rw (place-same (rowAt net h) r (q .size) y, a .1) (or-right (among registers-moved i) _ (may x i e))) (only-stamped r (pageAt r y)));
         })
-    own-changes (Carries to broadcast k) a = rw (not-own h to broadcast k r (a .other)) (record { registers = q .registers; chains = q .chains; moves = q .moves })
+    own-changes (Carries to broadcast k) a = rw (not-own h to broadcast k r (a .other)) (record { registers = q .registers; chains = q .chains; size = q .size; moves = q .moves })
 
   -- ---- through a step
   module _ (s : shape net ≡ true) (b : Rams net) (fault : ℕ) where
     own-step : (x : Bool) → Left x (allDone (step-by net s b fault .changes)) (rowAt (step net fault .after) h)
     own-step x =
-        by-rows net s b (λ l j r. j ≡ h → Left x (allDone l) r) (λ j _ e. rw e (record { registers = refl; chains = refl; moves = only-stays _ (rowAt net h) }))
+        by-rows net s b (λ l j r. j ≡ h → Left x (allDone l) r) (λ j _ e. rw e (record { registers = refl; chains = refl; size = size-same (rowAt net h); moves = only-stays _ (rowAt net h) }))
         (λ l c a j r m w q e. rw e (own-changes x l r m w (q e) c a)) (step-by net s b fault .path) h (held-row net s) refl
 
     pub moves-holder : OnlyAt (rowMoves net (stores net fault h) h) (rowAt net h) (rowAt (step net fault .after) h)

@@ -14,12 +14,14 @@ use Rattle.line.specs.declared.step.Answer.{Answer}
 use Rattle.line.specs.declared.step.Answer.the-variants.{Recovered, Passed, Unanswered, Held}
 use Rattle.registers.specs.Fit.{onLine}
 use Rattle.registers.proofs.Values.SameCard.{is-recovered, is-risen}
-use Rattle.table.specs.Network.{headerBytes, rows, phase, holder, LOST, PASS, TAKEN, turned, regsAt, onLineAt, topId, shape}
+use Rattle.table.specs.Rows.{headerBytes}
+use Rattle.table.specs.Network.{rows, phase, holder, LOST, PASS, TAKEN, turned, regsAt, onLineAt, topId, shape}
 use Rattle.line.specs.Traffic.{Turn, happened, takenTurn}
 use Rattle.line.specs.Step.{highest, invited, taker, step}
 use Rattle.table.proofs.Rows.Networks.{length-turned, rowAt-turned, phase-turned, holder-turned}
 use Rattle.table.proofs.Online.Nodes.{online-is}
 use Rattle.table.proofs.Shaped.Bounds.{bounds}
+use Rattle.table.proofs.Rows.Starts.{frame-byte}
 use Rattle.line.proofs.Steps.Stepped.{held-row}
 use Rattle.line.proofs.Change.Changes.{Rises, Reaches, Does, Path, begin, more}
 use Rattle.line.proofs.Change.Made.{made, own-here, own-there, shape-happened, happened-here}
@@ -45,7 +47,7 @@ module _ (net : List ℕ) (s : shape net ≡ true) (b : Rams net) where
   lost-step p ne =
       let e = lost-is net s p ne in
       let m = happened net Recovery in
-      let l = bounds m (shape-happened net Recovery s) _ refl .header in
+      let l = bounds m (shape-happened net Recovery s) .header in
       record {
         answer = ap (λ (t : Turn Answer). t .answer) e;
         alike = any-step;
@@ -72,7 +74,7 @@ module _ (net : List ℕ) (s : shape net ≡ true) (b : Rams net) where
       let t = taker net in
       let m = happened (invitation net) (Taken (invited net) t) in
       let q = more (invites p) (Reaches (Taken (invited net) t)) p in
-      let l = bounds m (sound net s b q .fits) _ refl .header in
+      let l = bounds m (sound net s b q .fits) .header in
       record {
         answer = ap (λ (t : Turn Answer). t .answer) e;
         alike = any-step;
@@ -105,8 +107,8 @@ module _ (net : List ℕ) (s : shape net ≡ true) (b : Rams net) where
         alike = any-step;
         here = rw e (ap (λ (g : Regs). g .nid) (own-here m h (a .fits) lm Rises) ∙ is-risen (regsAt m h) .nid ∙ ap (λ (n : ℕ). (n + 1) % 256) (nids h l));
         there = λ k lk ne. rw (e, own-there m h (a .fits) lm Rises k (omega (arith, a .count)) ne) (nids k lk);
-        phase = rw e (rises .header 4 (lit< tt) ∙ heard .header 4 (lit< tt) ∙ p);
-        holder = rw e (rises .header 5 (lit< tt) ∙ heard .header 5 (lit< tt));
+        phase = rw e (frame-byte (rises .frame) 4 (lit< tt) ∙ frame-byte (heard .frame) 4 (lit< tt) ∙ p);
+        holder = rw e (frame-byte (rises .frame) 5 (lit< tt) ∙ frame-byte (heard .frame) 5 (lit< tt));
       }
 
   -- ---- "TAKEN"
@@ -123,7 +125,7 @@ module _ (net : List ℕ) (s : shape net ≡ true) (b : Rams net) where
       let e = held-is net s p in
       let h = holder net in
       let m = takenTurn net h 0 .after in
-      let l : headerBytes ≤ length m = omega (arith, length-turned m PASS h, bounds (turned m PASS h) (rw e at (any-step .fits)) _ refl .header) in
+      let l : headerBytes ≤ length m = omega (arith, length-turned m PASS h, bounds (turned m PASS h) (rw e at (any-step .fits)) .header) in
       record {
         outcome = takenTurn net h 0 .answer;
         answer = ap (λ (t : Turn Answer). t .answer) e;

@@ -17,7 +17,8 @@ use Rattle.card.specs.Packets.{pageShape}
 use Rattle.card.specs.Row.{putRegs}
 use Rattle.registers.specs.Events.{heard, sent, enquired, receiving}
 use Rattle.card.specs.Packets.{storable}
-use Rattle.table.specs.Network.{rows, rowAt, setRow, eachRow, onRegs, regsAt}
+use Rattle.table.specs.Rows.{rowAt, setRow, eachRow}
+use Rattle.table.specs.Network.{rows, onRegs, regsAt}
 use Rattle.line.specs.Traffic.{happens, acknowledged, wentOut, broadcastTurn, packetTurn, asked, enquiryTurn}
 use Rattle.line.proofs.Turn.Sends.{is-happened, put-after}
 

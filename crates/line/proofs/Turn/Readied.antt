@@ -1,25 +1,28 @@
 -- The holder's row when its cancels have taken effect, and the packet that it then tries.
 -- Assumes nothing.
-use mathlib.Core.Path.{_≡_, refl, _∙_, ap}
+use mathlib.Core.Path.{_≡_, refl, ap}
 use mathlib.Core.Bool.{true, false}
-use mathlib.Core.List.{List, [], _∷_}
+use mathlib.Core.List.{List, _∷_}
 use Prim.Native.Nat.{ℕ, _≤_, _<_}
 use native.Mathlib.Omega.{arith}
-use lib.ListN.{length, getD}
+use lib.ListN.{getD}
 use Rattle.registers.specs.Layout.{at-status, queueBytes}
 use Rattle.registers.specs.Events.{cancelled, transmitPage}
 use Rattle.card.specs.Row.{registerBytes, regsOf, putRegs}
-use Rattle.card.specs.Packets.{malformed, pageShape, destination, packetAt, stamped}
+use Rattle.card.specs.Packets.{malformed, pageShape, destination, packetAt, stamped, pageAt}
 use Rattle.registers.proofs.Values.SameCard.{same-cancelled}
 use Rattle.registers.proofs.Values.Keeps.{keeps-cancelled}
 use Rattle.registers.proofs.Values.Ends.{transmit-page-small}
-use Rattle.card.proofs.Rows.Bytes.{length-put, put-ram}
-use Rattle.card.proofs.Pages.Stored.{length-stamped}
+use Rattle.card.proofs.Rows.Bytes.{size-put, put-ram}
+use Rattle.card.proofs.Pages.Stored.{size-stamped}
 use Rattle.card.proofs.Pages.Same.{shape-same, did-same}
 use Rattle.card.proofs.Pages.Sent.{SentFrom, sent-from}
-use Rattle.table.specs.Network.{rows, holder, rowAt, regsAt, shape}
-use Rattle.table.proofs.Rows.Networks.{rowAt-setRow}
-use Rattle.table.proofs.Shaped.Shapes.{shape-within, shape-row-length}
+use Rattle.card.proofs.Rows.Sizes.{SameSize}
+use Rattle.card.proofs.Pages.Places.{page-behind}
+use Rattle.table.specs.Rows.{rowAt}
+use Rattle.table.specs.Network.{rows, holder, regsAt, shape}
+use Rattle.table.proofs.Rows.WithRows.{rowAt-setRow}
+use Rattle.table.proofs.Shaped.Shapes.{shape-room, shape-row-whole}
 use Rattle.table.proofs.Shaped.Alike.{Alike}
 use Rattle.line.specs.Traffic.{onRow, stampedNet}
 use Rattle.line.specs.Outcomes.{sender, sentPage, sentShape, sentTo}
@@ -50,8 +53,8 @@ module _ (net : List ℕ) (s : shape net ≡ true) where
   here = own-here net h s low Cancels
 
   -- but for registers other than the ID and long packets the row is as it was
-  size : length (rowAt m h) ≡ length row
-  size = rw there (length-put row _)
+  size : SameSize row (rowAt m h)
+  size = rw there (size-put row _)
 
   ram : (i : ℕ) → registerBytes ≤ i → getD (rowAt m h) i 0 ≡ getD row i 0
   ram = rw there (put-ram row (cancelled (regsOf row)))
@@ -72,7 +75,7 @@ module _ (net : List ℕ) (s : shape net ≡ true) where
   pub sent : Alike net m → malformed (sentShape net) ≡ false → SentFrom (sender net) (sentPage net) (packetAt (rowAt (stampedNet m h page) h) page)
   sent now f =
       let lm : h < rows m = omega (arith, now .count, low) in
-      let e : rowAt (stampedNet m h page) h ≡ stamped (rowAt m h) page
-      = rowAt-setRow m h _ (shape-within m (now .fits) h lm) (length-stamped (rowAt m h) page ∙ shape-row-length m (now .fits) h lm) in
+      let e : rowAt (stampedNet m h page) h ≡ stamped (rowAt m h) (pageAt (rowAt m h) page)
+      = rowAt-setRow m (rows m) (shape-room m (now .fits)) h lm _ (size-stamped (rowAt m h) (pageAt (rowAt m h) page) (page-behind (rowAt m h) page)) in
       rw (e, same-page)
-      (sent-from row (rowAt m h) (sentPage net) (transmit-page-small (cancelled (regsAt net h))) size (shape-row-length net s h low) (rw here (same-cancelled (regsAt net h) .id)) long ram f)
+      (sent-from row (rowAt m h) (sentPage net) (transmit-page-small (cancelled (regsAt net h))) size (shape-row-whole net s h low) (rw here (same-cancelled (regsAt net h) .id)) long ram f)

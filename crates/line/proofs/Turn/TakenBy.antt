@@ -18,15 +18,13 @@ use Rattle.card.specs.Row.{regsOf}
 use Rattle.card.specs.Packets.{malformed, pageShape, destination, packetAt, storable}
 use Rattle.bits.proofs.Words.Bools.{and-left, and-right, or-false, pick-of}
 use Rattle.registers.proofs.Values.Ends.{transmit-page-small}
-use Rattle.card.proofs.Rows.Rams.{packet-bytes}
-use Rattle.card.proofs.Pages.Packets.{packet-full, packet-count}
-use Rattle.table.specs.Network.{rows, phase, holder, TAKEN, rowAt, regsAt, nodeOf, shape}
+use Rattle.table.specs.Rows.{rowAt}
+use Rattle.table.specs.Network.{rows, phase, holder, TAKEN, regsAt, nodeOf, shape}
 use Rattle.line.specs.Traffic.{Turn, onRow, happened, damaged, ackLost, takes, stampedNet, wentOut, broadcastTurn, acknowledged, packetTurn, asked, enquiryTurn, tryTurn, takenTurn}
 use Rattle.line.specs.Step.{stepNumber}
 use Rattle.line.specs.Outcomes.{sentShape, sentTo, addressee, stores, holderAfter}
 use Rattle.table.proofs.Online.Nodes.{nodeOf-found}
 use Rattle.table.proofs.Online.SameNodes.{alike-node-of}
-use Rattle.table.proofs.Shaped.Shapes.{shape-row-length}
 use Rattle.table.proofs.Shaped.Alike.{Rams, Alike}
 use Rattle.line.proofs.Steps.Stepped.{held-row}
 use Rattle.line.proofs.Change.Changes.{Own, Cancels, Enquires, Ends, does, Change, Reaches, Does, Stamps, Carries, Tries, Allowed, Path, begin, more, allDone, storedBy}
@@ -35,6 +33,7 @@ use Rattle.line.proofs.Change.Paths.{sound}
 use Rattle.line.proofs.Turn.Readied.{same-page, same-form, same-did, sent}
 use Rattle.line.proofs.Turn.Storing.{Reached, cast, one, unheard}
 use Rattle.line.proofs.Turn.Says.{By, tried, SaysHeld, packet-says, packet-tried}
+use Rattle.line.proofs.Turn.Sends.{whole-packet}
 
 alone : (a b c : Bool) → (a && b && c || false) ≡ (a && (b && c))
 alone true b c = or-false (b && c)
@@ -138,18 +137,13 @@ module _ (net : List ℕ) (s : shape net ≡ true) (b : Rams net) (fault : ℕ) 
           let d = more c (Reaches (Message h false)) (refl, λ e. omega (arith, p, e)) in
           let k = packetAt (rowAt x h) page in
           let lx : h < rows x = omega (arith, a .count, low) in
-          let bytes = a .rams h lx .0 in
           pick-of (Went to broadcast) (damaged fault) (λ e. record { changes = _; path = d; own = λ g. refl; stored = λ j. rw e })
           (λ e. record {
             changes = _;
             path = more d (Carries to broadcast k) (record {
               tries = tries;
               once = λ j g. refl;
-              whole = record {
-                full = omega (arith, packet-full (rowAt x h) page (shape-row-length x (a .fits) h lx) (transmit-page-small (regsAt m h)));
-                count = packet-count (rowAt x h) page bytes;
-                small = packet-bytes (rowAt x h) bytes page;
-              };
+              whole = whole-packet x (a .fits) (a .rams) h lx page (transmit-page-small (regsAt m h));
               packet = went;
               other = other;
             });

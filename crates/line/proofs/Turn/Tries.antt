@@ -6,20 +6,22 @@ use mathlib.Core.List.{List}
 use Prim.Native.Nat.{ℕ, _<_}
 use native.Mathlib.Omega.{arith}
 use borrow.Author.Tests.{eq-eqb, ne-eqb}
-use lib.ListN.{length}
 use Rattle.registers.specs.declared.regs.Regs.{Regs}
 use Rattle.card.specs.declared.packets.Shape.{Shape}
 use Rattle.line.specs.declared.traffic.Outcome.{Outcome}
 use Rattle.line.specs.declared.traffic.Outcome.the-variants.{Nothing, Malformed}
-use Rattle.card.specs.Row.{rowBytes, regsOf, putRegs}
+use Rattle.card.specs.Row.{regsOf, putRegs}
 use Rattle.card.specs.Packets.{malformed, pageShape, destination}
 use Rattle.registers.specs.Events.{cancelled, sent, transmitting, transmitPage}
-use Rattle.card.proofs.Rows.Bytes.{length-put, regs-put}
+use Rattle.card.proofs.Rows.Sizes.{whole-registers}
+use Rattle.card.proofs.Rows.Bytes.{size-put, regs-put}
 use Rattle.registers.proofs.Values.Ends.{transmit-page-small}
-use Rattle.table.specs.Network.{rows, rowAt, setRow, regsAt, nodeOf, shape}
+use Rattle.table.specs.Rows.{rowAt, setRow}
+use Rattle.table.specs.Network.{rows, regsAt, nodeOf, shape}
 use Rattle.line.specs.Traffic.{onRow, broadcastTurn, enquiryTurn, tryTurn, takenTurn}
-use Rattle.table.proofs.Rows.Networks.{setRow-header, rowAt-setRow}
-use Rattle.table.proofs.Shaped.Shapes.{shape-within, shape-row-length}
+use Rattle.table.proofs.Rows.Starts.{frame-byte}
+use Rattle.table.proofs.Rows.WithRows.{rowAt-setRow, setRow-frame}
+use Rattle.table.proofs.Shaped.Shapes.{shape-room, shape-row-whole}
 use Rattle.line.proofs.Change.Changes.{Cancels, Does}
 use Rattle.line.proofs.Change.Made.{shape-done}
 use Rattle.line.proofs.Turn.Sends.{put-after}
@@ -60,9 +62,6 @@ module _ (net : List ℕ) (h p fault : ℕ) (r : List ℕ) (er : r ≡ rowAt net
 
 module _ (net : List ℕ) (s : shape net ≡ true) (h : ℕ) (l : h < rows net) (fault : ℕ)
     (q : Regs) (eq : q ≡ regsAt net h) (g : Regs) (eg : g ≡ cancelled q) (x : List ℕ) (ex : x ≡ setRow net h (putRegs (rowAt net h) g)) where
-  long : (g : Regs) → length (putRegs (rowAt net h) g) ≡ rowBytes
-  long g = length-put (rowAt net h) g ∙ shape-row-length net s h l
-
   after-cancels : x ≡ onRow net h cancelled
   after-cancels = put-after net net refl h q eq cancelled g eg x ex
 
@@ -70,11 +69,11 @@ module _ (net : List ℕ) (s : shape net ≡ true) (h : ℕ) (l : h < rows net) 
   there : g ≡ regsAt (onRow net h cancelled) h
   there =
       sym (ap (λ (y : List ℕ). regsAt y h) (sym after-cancels ∙ ex)
-      ∙ ap regsOf (rowAt-setRow net h _ (shape-within net s h l) (long g)) ∙ regs-put (rowAt net h) g (omega (arith, shape-row-length net s h l)))
+      ∙ ap regsOf (rowAt-setRow net (rows net) (shape-room net s) h l _ (size-put (rowAt net h) g)) ∙ regs-put (rowAt net h) g (whole-registers _ (shape-row-whole net s h l)))
 
   pub cancels-ready : (page : ℕ) → page ≡ transmitPage g → (shape x ≡ true) × ((h < rows x) × (page < 4))
   cancels-ready page e =
-      let n : rows x ≡ rows net = ap rows ex ∙ setRow-header net h _ (shape-within net s h l) (long g) 3 (omega arith) in
+      let n : rows x ≡ rows net = ap rows ex ∙ frame-byte (setRow-frame net (rows net) (shape-room net s) h l _ (size-put (rowAt net h) g)) 3 (omega arith) in
       (rw after-cancels (shape-done net h s l (Does Cancels) tt), (omega arith, rw e (transmit-page-small g)))
 
   module _ (b : Bool) (eb : b ≡ transmitting g) where

@@ -14,7 +14,8 @@ use Rattle.line.specs.declared.step.Answer.{Answer}
 use Rattle.line.specs.declared.step.Answer.the-variants.{Quiet, Recovered, Passed, Unanswered, TokenLost, Held}
 use Rattle.card.specs.Row.{putRegs}
 use Rattle.registers.specs.Events.{risenNid}
-use Rattle.table.specs.Network.{rows, phase, holder, LOST, PASS, TAKEN, turned, rowAt, setRow, eachRow, onRegs, regsAt, nodeOf, topId, shape}
+use Rattle.table.specs.Rows.{rowAt, setRow, eachRow}
+use Rattle.table.specs.Network.{rows, phase, holder, LOST, PASS, TAKEN, turned, onRegs, regsAt, nodeOf, topId, shape}
 use Rattle.line.specs.Traffic.{happens, happened, takenTurn}
 use Rattle.line.specs.Step.{lostTurn, passTurn, invited, taker, stepTurn}
 use Rattle.table.proofs.Online.Nodes.{nodeOf-most}

@@ -16,6 +16,7 @@ card-once = record {
   packet-at = λ _ _ _ _ _ _. told refl;
   store-packet = λ _ _ _ _ _ _. left refl;
   stamp = λ _ _ _ _ _ _. left refl;
+  size = (λ _ _. tt, λ _ _ _ _ _ _. told refl);
   load = λ _ _ _ _ _ _. told refl;
   store = λ _ _ _ _ _ _. left refl;
   all-zero = (λ _ _. tt, λ _ _ _ _ _ _. told refl);

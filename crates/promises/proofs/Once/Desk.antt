@@ -5,7 +5,7 @@ use Rattle.desk.proofs.Forms.Names.{name-there}
 use Rattle.desk.proofs.Lapping.LapLeaves.{only-walk}
 use Rattle.promises.specs.OfDesk.{OfDesk}
 use Rattle.promises.proofs.Once.Same.{told, both-right, part}
-use Rattle.promises.proofs.Once.Sixty.{sixty}
+use Rattle.promises.proofs.Once.Sized.{sized}
 
 pub desk-once : OfDesk
 desk-once = record {
@@ -17,7 +17,7 @@ desk-once = record {
     λ κs a. tt,
     λ κs a x x′ w w′ p q. (
       λ o o′.
-          let e = only-walk _ _ _ _ _ _ _ _ _ _ (sixty κs x o) (sixty κs x′ o′) (p .0) (q .0) in
+          let e = only-walk _ _ _ _ _ _ _ _ _ _ (sized κs x o) (sized κs x′ o′) (p .0) (q .0) in
           λ i. record { lapped = e .1 .1 .0 i; n = e .0 i; list = e .1 .0 i },
       λ i. ((p .0 .5 ∙ sym (q .0 .5)) i, (tt, tt)),
     ),

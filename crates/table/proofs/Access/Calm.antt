@@ -3,30 +3,34 @@
 use mathlib.Core.Path.{_≡_, refl, _∙_, ap}
 use mathlib.Core.Bool.{Bool, true, _&&_}
 use mathlib.Core.List.{List}
-use Prim.Native.Nat.{ℕ, _+_, _≤_, _<_}
+use Prim.Native.Nat.{ℕ, suc, _≤_, _<_}
 use native.Mathlib.Omega.{arith}
 use lib.Dec.{eqb}
 use lib.ListN.{length}
 use borrow.Author.Tests.{eqb-true}
 use Rattle.registers.specs.declared.regs.Regs.{Regs}
-use Rattle.card.specs.Row.{rowBytes, regsOf}
+use Rattle.card.specs.Row.{regsOf}
 use Rattle.registers.specs.Fit.{onLine}
 use Rattle.registers.specs.Registers.{hardwareReset}
 use Rattle.card.specs.Access.{rowAfterRead, rowAfterWrite, rowAfterReset}
 use Rattle.registers.specs.Events.{burst}
 use Rattle.bits.proofs.Words.Bools.{and-left, pick-of}
-use Rattle.card.proofs.Rows.Bytes.{length-put, regs-put}
+use Rattle.card.proofs.Rows.Sizes.{SameSize, whole-registers}
+use Rattle.card.proofs.Rows.Bytes.{size-put, regs-put}
 use Rattle.registers.proofs.Values.SameCard.{on-line-same, same-burst}
-use Rattle.card.proofs.Rows.WellFormed.{length-read, length-write}
+use Rattle.card.proofs.Rows.WellFormed.{size-read, size-write}
 use Rattle.card.proofs.Rows.Rams.{ram-put}
 use Rattle.registers.proofs.Values.SameCard.{reset-id, write-nid, write-id-byte}
 use Rattle.card.proofs.Rows.Touched.{same-row, ram-read, ram-write}
-use Rattle.table.specs.Network.{rowStart, rows, LOST, turned, rowAt, setRow, onRegs, regsAt, onLineAt, shape, SameNodes}
+use Rattle.table.specs.Rows.{rowStart, rowAt, setRow}
+use Rattle.table.specs.Network.{rows, LOST, turned, onRegs, regsAt, onLineAt, shape, SameNodes}
 use Rattle.table.specs.Calls.{placeNumber, netReadNumber, netAfterRead, isHolder, settled, netWriteNumber, netAfterWrite, netAfterReset}
 use Rattle.table.proofs.Folds.{clash}
-use Rattle.table.proofs.Rows.Networks.{length-rowAt, length-setRow, rowAt-setRow, rowAt-turned}
+use Rattle.table.proofs.Rows.Starts.{frame-within}
+use Rattle.table.proofs.Rows.WithRows.{row-whole, rowAt-setRow, setRow-frame}
+use Rattle.table.proofs.Rows.Networks.{rowAt-turned}
 use Rattle.table.proofs.Online.Nodes.{online-same}
-use Rattle.table.proofs.Shaped.Shapes.{shape-within, shape-row, shape-row-length}
+use Rattle.table.proofs.Shaped.Shapes.{shape-within, shape-row, shape-row-whole}
 use Rattle.table.proofs.Shaped.Kept.{became-put}
 use Rattle.table.proofs.Shaped.Became.{still-same}
 use Rattle.table.proofs.Shaped.Alike.{Rams}
@@ -37,15 +41,15 @@ use Rattle.table.proofs.Online.SameNodes.{CalmRow, calm-still, calm-row
 pub use Rattle.table.proofs.Online.SameNodes.{same-nodes-then, alike-nodes, Calm, calm-same}
 
 -- ---- a row that is on line as it was before the call has nothing to settle
-module _ (net : List ℕ) (k : ℕ) (h : rowStart k + rowBytes ≤ length net) where
+module _ (net : List ℕ) (k : ℕ) (h : rowStart net (suc k) ≤ length net) where
   bursts-online : onLineAt (turned (setRow net k (onRegs burst (rowAt net k))) LOST 0) k ≡ onLineAt net k
   unfolding onLineAt
   bursts-online =
-      let l = length-rowAt net k h in
+      let w = row-whole net (suc k) h k (omega arith) in
       let g = regsAt net k in
       let r = onRegs burst (rowAt net k) in
-      ap (λ (x : List ℕ). onLine (regsOf x)) (rowAt-turned (setRow net k r) LOST 0 k ∙ rowAt-setRow net k r h (length-put (rowAt net k) _ ∙ l))
-      ∙ ap onLine (regs-put (rowAt net k) (burst g) (omega arith)) ∙ on-line-same g (burst g) (same-burst g .id) (same-burst g .configuration)
+      ap (λ (x : List ℕ). onLine (regsOf x)) (rowAt-turned (setRow net k r) LOST 0 k ∙ rowAt-setRow net (suc k) h k (omega arith) r (size-put (rowAt net k) _))
+      ∙ ap onLine (regs-put (rowAt net k) (burst g) (whole-registers (rowAt net k) w)) ∙ on-line-same g (burst g) (same-burst g .id) (same-burst g .configuration)
 
   settled-none : (was : Bool) → onLineAt (settled net k was) k ≡ was → settled net k was ≡ net
   unfolding settled
@@ -56,12 +60,12 @@ module _ (net : List ℕ) (k : ℕ) (h : rowStart k + rowBytes ≤ length net) w
       (λ u o. absurd (clash (o ∙ and-left was (isHolder net k) u) (online-same net (turned net LOST 0) k (rowAt-turned net LOST 0 k) ∙ t))) (λ _ _. refl))
 
 module _ (net : List ℕ) (s : shape net ≡ true) (b : Rams net) (k : ℕ) where
-  module _ (l : k < rows net) (r : List ℕ) (e : length r ≡ rowBytes) (q : CalmRow (rowAt net k) r) where
+  module _ (l : k < rows net) (r : List ℕ) (e : SameSize (rowAt net k) r) (q : CalmRow (rowAt net k) r) where
     calm-settled : shape (settled (setRow net k r) k (onLineAt net k)) ≡ true → SameNodes net (settled (setRow net k r) k (onLineAt net k))
         → Calm net (settled (setRow net k r) k (onLineAt net k))
     calm-settled f n =
         let h = shape-within net s k l in
-        let same = settled-none (setRow net k r) k (omega (arith, length-setRow net k r h e)) (onLineAt net k) (n .online k l) in
+        let same = settled-none (setRow net k r) k (frame-within (setRow-frame net (suc k) h k (omega arith) r e) h) (onLineAt net k) (n .online k l) in
         calm-rows b (rw same (became-put net k r s l e q (λ j _. calm-row-same (rowAt net j)))) f n
 
   -- ---- the calls
@@ -71,9 +75,9 @@ module _ (net : List ℕ) (s : shape net ≡ true) (b : Rams net) (k : ℕ) wher
       pick-of (Calm net) (eqb (netReadNumber net k g) 0)
       (λ z. let l = row-there net k (read-placed net k g (eqb-true _ _ z)) .1 in
       let r = rowAt net k in
-      let w = shape-row-length net s k l in
+      let w = shape-row-whole net s k l in
       calm-still net s b (setRow net k (rowAfterRead r g))
-      (became-put net k (rowAfterRead r g) s l (length-read r w g)
+      (became-put net k (rowAfterRead r g) s l (size-read r g)
       (record { moved = record { kept = kept-read r w g (shape-row net s k l); ram = λ _ m. ram-read r m g }; nid = same-row r w g .nid })
       (λ j lj. still-same (rowAt net j) (shape-row net s j lj))))
       (λ _. calm-same net s b)
@@ -84,9 +88,9 @@ module _ (net : List ℕ) (s : shape net ≡ true) (b : Rams net) (k : ℕ) wher
       let r = rowAt net k in
       pick-of (λ (x : List ℕ). shape x ≡ true → SameNodes net x → Calm net x) (eqb (netWriteNumber net k g v) 0)
       (λ z. let l = row-there net k (write-placed net k g v (eqb-true _ _ z)) .1 in
-      let w = shape-row-length net s k l in
+      let w = shape-row-whole net s k l in
       let e = regs-write r w g v in
-      calm-settled l (rowAfterWrite r g v) (length-write r w g v)
+      calm-settled l (rowAfterWrite r g v) (size-write r g v)
       (record {
         bytes = λ m. (ram-write r (m .0) g v h, rw e (write-id-byte (regsOf r) g v (m .1) h));
         nid = λ _. ap (λ (x : Regs). x .nid) e ∙ write-nid (regsOf r) g v;
@@ -100,10 +104,10 @@ module _ (net : List ℕ) (s : shape net ≡ true) (b : Rams net) (k : ℕ) wher
       let r = rowAt net k in
       pick-of (λ (x : List ℕ). shape x ≡ true → SameNodes net x → Calm net x) (eqb (placeNumber net k) 0)
       (λ z. let l = row-there net k (eqb-true _ _ z) .1 in
-      let w = shape-row-length net s k l in
-      calm-settled l (rowAfterReset r) (length-put r hardwareReset ∙ w)
+      let w = shape-row-whole net s k l in
+      calm-settled l (rowAfterReset r) (size-put r hardwareReset)
       (record {
-        bytes = λ m. (ram-put r (m .0) hardwareReset, rw (regs-put r hardwareReset (omega arith)) reset-id);
+        bytes = λ m. (ram-put r (m .0) hardwareReset, rw (regs-put r hardwareReset (whole-registers r w)) reset-id);
         nid = λ o. absurd (clash o (reset-off r w));
       }))
       (λ _ _ _. calm-same net s b)

@@ -4,7 +4,7 @@ use mathlib.Core.Path.{_≡_, refl, sym, _∙_, ap}
 use mathlib.Core.Bool.{Bool, true, false, _&&_, false≢true}
 use mathlib.Core.List.{List, [], _∷_}
 use mathlib.Core.Logic.{⊎-elim}
-use Prim.Native.Nat.{ℕ, _+_, _≤_, _<_}
+use Prim.Native.Nat.{ℕ, _≤_, _<_}
 use native.Mathlib.Omega.{arith}
 use lib.Dec.{eqb, ltb}
 use lib.ListN.{length, getD}
@@ -17,16 +17,20 @@ use Rattle.registers.specs.Events.{burst}
 use Rattle.bits.proofs.Words.Bools.{cases, or-left, or-right, pick-of}
 use Rattle.registers.proofs.Values.SameCard.{reset-off}
 use Rattle.registers.proofs.Values.Keeps.{keeps-burst}
-use Rattle.card.specs.Row.{rowBytes, regsOf}
+use Rattle.card.specs.Row.{Whole, regsOf}
 use Rattle.card.specs.Access.{rowAfterRead, rowAfterWrite, rowAfterReset}
 use Rattle.card.specs.Moves.{OnlyAt, writeMoves}
-use Rattle.card.proofs.Rows.Bytes.{length-put, regs-put}
-use Rattle.card.proofs.Rows.WellFormed.{length-read, length-write}
+use Rattle.card.proofs.Rows.Sizes.{SameSize, size-whole, whole-registers}
+use Rattle.card.proofs.Rows.Bytes.{size-put, regs-put}
+use Rattle.card.proofs.Rows.WellFormed.{size-read, size-write}
 use Rattle.card.proofs.Rows.Moves.{only-stays, only-then, only-wider, only-put, only-read, only-write, only-reset}
-use Rattle.table.specs.Network.{headerBytes, rowStart, rows, LOST, turned, rowAt, setRow, onRegs, regsAt, onLineAt, shape, OnlyRow}
+use Rattle.table.specs.Rows.{headerBytes, rowStart, rowAt, setRow}
+use Rattle.table.specs.Network.{rows, LOST, turned, onRegs, regsAt, onLineAt, shape, OnlyRow}
 use Rattle.table.specs.Calls.{placeNumber, netReadNumber, netAfterRead, isHolder, settled, netWriteNumber, netWriteMoves, netAfterWrite, resetMoves, netAfterReset, timerNumber, netAfterTimer}
-use Rattle.table.proofs.Rows.Networks.{length-setRow, rowAt-setRow, setRow-header, rowAt-turned}
-use Rattle.table.proofs.Shaped.Shapes.{shape-within, shape-row, shape-row-length}
+use Rattle.table.proofs.Rows.Starts.{frame-within, frame-byte}
+use Rattle.table.proofs.Rows.WithRows.{rowAt-setRow, setRow-frame}
+use Rattle.table.proofs.Rows.Networks.{rowAt-turned}
+use Rattle.table.proofs.Shaped.Shapes.{shape-room, shape-row, shape-row-whole}
 use Rattle.table.proofs.Shaped.KeptRows.{regs-write}
 use Rattle.table.proofs.Access.Placed.{read-placed, write-placed, timer-placed, row-there}
 use Rattle.table.proofs.Access.Refused.{write-refused, reset-refused, timer-refused}
@@ -37,21 +41,21 @@ module _ (net : List ℕ) (s : shape net ≡ true) (k : ℕ) (l : k < rows net) 
   abbrev row : List ℕ
   row = rowAt net k
 
-  long : length row ≡ rowBytes
-  long = shape-row-length net s k l
+  whole : Whole row
+  whole = shape-row-whole net s k l
 
-  inside : rowStart k + rowBytes ≤ length net
-  inside = shape-within net s k l
+  inside : rowStart net (rows net) ≤ length net
+  inside = shape-room net s
 
-  there : (r : List ℕ) → length r ≡ rowBytes → rowAt (setRow net k r) k ≡ r
-  there r e = rowAt-setRow net k r inside e
+  there : (r : List ℕ) → SameSize row r → rowAt (setRow net k r) k ≡ r
+  there = rowAt-setRow net (rows net) inside k l
 
   -- a burst sets MYRECON
-  only-burst : (r : List ℕ) → length r ≡ rowBytes → OnlyAt (among (at-diagnostic ∷ [])) r (onRegs burst r)
-  only-burst r e = only-put (at-diagnostic ∷ []) r _ (omega arith) (keeps-burst _ (regsOf r) refl)
+  only-burst : (r : List ℕ) → Whole r → OnlyAt (among (at-diagnostic ∷ [])) r (onRegs burst r)
+  only-burst r w = only-put (at-diagnostic ∷ []) r _ (whole-registers r w) (keeps-burst _ (regsOf r) refl)
 
   -- a row that is given other bytes, and settles
-  module _ (r : List ℕ) (e : length r ≡ rowBytes) (moves : ℕ → Bool) (o : OnlyAt moves row r)
+  module _ (r : List ℕ) (e : SameSize row r) (moves : ℕ → Bool) (o : OnlyAt moves row r)
       (bursts : onLineAt net k ≡ false → onLine (regsOf r) ≡ true → (i : ℕ) → moves i ≡ false → eqb i at-diagnostic ≡ false) where
     abbrev new : List ℕ
     new = setRow net k r
@@ -62,7 +66,7 @@ module _ (net : List ℕ) (s : shape net ≡ true) (k : ℕ) (l : k < rows net) 
     burst-row : rowAt (turned (setRow new k (onRegs burst (rowAt new k))) LOST 0) k ≡ onRegs burst r
     burst-row =
         rowAt-turned _ LOST 0 k
-        ∙ rowAt-setRow new k _ (omega (arith, length-setRow net k r inside e, inside)) (length-put (rowAt new k) _ ∙ rw is e) ∙ ap (onRegs burst) is
+        ∙ rowAt-setRow new (rows net) (frame-within (setRow-frame net (rows net) inside k l r e) inside) k l _ (size-put (rowAt new k) _) ∙ ap (onRegs burst) is
 
     only-settled : OnlyAt moves row (rowAt (settled new k (onLineAt net k)) k)
     unfolding settled onLineAt
@@ -70,7 +74,7 @@ module _ (net : List ℕ) (s : shape net ≡ true) (k : ℕ) (l : k < rows net) 
         let P : List ℕ → Type 0 = λ x. OnlyAt moves row (rowAt x k) in
         pick-of P (onLine (regsAt new k))
         (λ t. pick-of P (onLine (regsAt net k)) (λ _. rw is o)
-        (λ f. rw burst-row (only-then row r _ o (only-wider r _ (λ i m. rw (bursts f (rw is at t) i m)) (only-burst r e)))))
+        (λ f. rw burst-row (only-then row r _ o (only-wider r _ (λ i m. rw (bursts f (rw is at t) i m)) (only-burst r (size-whole e whole))))))
         (λ _. pick-of P (onLine (regsAt net k) && isHolder new k) (λ _. rw (rowAt-turned new LOST 0 k, is) o) (λ _. rw is o))
 
   -- ---- the calls
@@ -78,30 +82,30 @@ module _ (net : List ℕ) (s : shape net ≡ true) (k : ℕ) (l : k < rows net) 
   unfolding netAfterRead
   read-row g =
       pick-of (λ (x : List ℕ). OnlyAt (among (readChanges g)) row (rowAt x k)) (eqb (netReadNumber net k g) 0)
-      (λ _. rw (there (rowAfterRead row g) (length-read row long g)) (only-read row long g)) (λ _. only-stays _ row)
+      (λ _. rw (there (rowAfterRead row g) (size-read row g)) (only-read row whole g)) (λ _. only-stays _ row)
 
   write-row : (g v : ℕ) → OnlyAt (netWriteMoves net k g v) row (rowAt (netAfterWrite net k g v) k)
   unfolding netAfterWrite
   write-row g v =
       pick-of (λ (x : List ℕ). OnlyAt (netWriteMoves net k g v) row (rowAt x k)) (eqb (netWriteNumber net k g v) 0)
-      (λ _. only-settled (rowAfterWrite row g v) (length-write row long g v) (netWriteMoves net k g v)
-      (only-wider row _ (λ i m. or-left (writeMoves row g i) _ m) (only-write row long (shape-row net s k l) g v))
-      (λ f t i m. rw (f, sym (ap onLine (regs-write row long g v)) ∙ t) at (or-right (writeMoves row g i) _ m)))
+      (λ _. only-settled (rowAfterWrite row g v) (size-write row g v) (netWriteMoves net k g v)
+      (only-wider row _ (λ i m. or-left (writeMoves row g i) _ m) (only-write row whole (shape-row net s k l) g v))
+      (λ f t i m. rw (f, sym (ap onLine (regs-write row whole g v)) ∙ t) at (or-right (writeMoves row g i) _ m)))
       (λ _. only-stays _ row)
 
   reset-row : OnlyAt (resetMoves net k) row (rowAt (netAfterReset net k) k)
   unfolding netAfterReset
   reset-row =
       pick-of (λ (x : List ℕ). OnlyAt (resetMoves net k) row (rowAt x k)) (eqb (placeNumber net k) 0)
-      (λ _. only-settled (rowAfterReset row) (length-put row hardwareReset ∙ long) (resetMoves net k) (only-reset row long (shape-row net s k l))
-      (λ f t i m. absurd (false≢true (sym (ap onLine (regs-put row hardwareReset (omega (arith, long))) ∙ reset-off) ∙ t))))
+      (λ _. only-settled (rowAfterReset row) (size-put row hardwareReset) (resetMoves net k) (only-reset row whole (shape-row net s k l))
+      (λ f t i m. absurd (false≢true (sym (ap onLine (regs-put row hardwareReset (whole-registers row whole)) ∙ reset-off) ∙ t))))
       (λ _. only-stays _ row)
 
   timer-row : OnlyAt (among (at-diagnostic ∷ [])) row (rowAt (netAfterTimer net k) k)
   unfolding netAfterTimer
   timer-row =
       pick-of (λ (x : List ℕ). OnlyAt (among (at-diagnostic ∷ [])) row (rowAt x k)) (eqb (timerNumber net k) 0)
-      (λ _. rw (rowAt-turned (setRow net k (onRegs burst row)) LOST 0 k, there (onRegs burst row) (length-put row _ ∙ long)) (only-burst row long))
+      (λ _. rw (rowAt-turned (setRow net k (onRegs burst row)) LOST 0 k, there (onRegs burst row) (size-put row _)) (only-burst row whole))
       (λ _. only-stays _ row)
 
 -- ---- and all else, whatever network is given
@@ -119,7 +123,7 @@ module _ (net : List ℕ) (k : ℕ) where
       let none : (There → ⊥) → OnlyRow net new k moves = λ n. rw (refused n) (only-same moves) in
       ⊎-elim (λ (s : shape net ≡ true). ⊎-elim (λ (l : ltb k (rows net) ≡ true). let b = done s (ltb-true k (rows net) l) in record {
         frame = record { size = b .0 .long; header = b .0 .header };
-        others = λ j h n. b .0 .others j n (shape-within net s j h);
+        others = λ j h n. b .0 .others j n h;
         row = b .1;
       })
       (λ (l : ltb k (rows net) ≡ false). none (λ t. omega (arith, t .1, ltb-false k (rows net) l))) (cases (ltb k (rows net))))
@@ -137,7 +141,7 @@ module _ (net : List ℕ) (k : ℕ) where
   read-header g i h =
       pick-of (λ (x : List ℕ). getD x i 0 ≡ getD net i 0) (eqb (netReadNumber net k g) 0)
       (λ z. let t = row-there net k (read-placed net k g (eqb-true _ _ z)) in
-      setRow-header net k _ (shape-within net (t .0) k (t .1)) (length-read (rowAt net k) (shape-row-length net (t .0) k (t .1)) g) i h) (λ _. refl)
+      frame-byte (setRow-frame net (rows net) (shape-room net (t .0)) k (t .1) _ (size-read (rowAt net k) g)) i h) (λ _. refl)
 
   pub write-only : (g v : ℕ) → OnlyRow net (netAfterWrite net k g v) k (netWriteMoves net k g v)
   write-only g v =

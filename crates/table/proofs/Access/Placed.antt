@@ -3,7 +3,7 @@
 use mathlib.Core.Path.{_≡_, refl, sym, _∙_, ap}
 use mathlib.Core.Bool.{Bool, true, false, not}
 use mathlib.Core.List.{List, [], _++_}
-use Prim.Native.Nat.{ℕ, _+_, _-_, _≤_, _<_}
+use Prim.Native.Nat.{ℕ, suc, _+_, _-_, _≤_, _<_}
 use native.Mathlib.Omega.{arith}
 use lib.Dec.{leb}
 use lib.ListN.{length}
@@ -11,7 +11,7 @@ use borrow.Author.Tests.{eq-eqb, ne-eqb, leb-false, lt-leb, not-false}
 use borrow.Rule.Slice.PartMut.{midOf, putMid}
 use Rattle.registers.specs.declared.regs.Regs.{Regs}
 use Rattle.told.specs.Numbers.{DONE, SHAPE, ROW, Refusal, refuse, told, refuses}
-use Rattle.card.specs.Row.{rowBytes, putRegs}
+use Rattle.card.specs.Row.{putRegs}
 use Rattle.registers.specs.Registers.{interrupt}
 use Rattle.card.specs.Access.{valueRead, rowAfterRead}
 use Rattle.places.specs.Places.{onward}
@@ -21,17 +21,11 @@ use Rattle.registers.specs.Events.{burst}
 use Rattle.told.proofs.Told.Smallest.{refuse-held, refuse-passed, refuse-stays, told-first, told-second, told-both, none-refuses}
 use Rattle.table.specs.declared.calls.Reading.{Reading}
 use Rattle.table.specs.declared.calls.Interrupting.{Interrupting}
-use Rattle.table.specs.Network.{rowLimit, rowStart, rows, LOST, turned, rowAt, setRow, regsAt, shape}
+use Rattle.table.specs.Rows.{headerBytes, rowStart, rowAt, setRow}
+use Rattle.table.specs.Network.{rows, LOST, turned, regsAt, shape}
 use Rattle.table.specs.Calls.{placeRefusals, placeNumber, netReadNumber, netReading, netAfterRead, netWriteNumber, timerNumber, netAfterTimer, netInterrupt, netDataFrom, netData, netDataNumber}
-use Rattle.table.proofs.Rows.Networks.{mid-row, put-row}
-use Rattle.table.proofs.Shaped.Shapes.{shape-rows, shape-within}
-
--- a row as the code lends it, and the network with what comes back
-abbrev pub lent : List ℕ → ℕ → List ℕ
-lent net k = midOf (rowStart k) (rowStart k + rowBytes - rowStart k) net
-
-abbrev pub back : List ℕ → ℕ → List ℕ → List ℕ
-back net k s = putMid (rowStart k) (rowStart k + rowBytes - rowStart k) net s
+use Rattle.table.proofs.Rows.Walks.{Lies, mid-row, row-done}
+use Rattle.table.proofs.Shaped.Shapes.{shape-least, shape-within}
 
 -- ---- SHAPE and ROW, as the code asks them
 module _ (net : List ℕ) (k : ℕ) (s : Bool) (e : s ≡ shape net) where
@@ -43,10 +37,10 @@ module _ (net : List ℕ) (k : ℕ) (s : Bool) (e : s ≡ shape net) where
   unfolding placeNumber placeRefusals
   place-asked f n m r h = rw (refuse-passed DONE SHAPE (not (shape net)) (ap not (sym e) ∙ f), ← m) h
 
--- row k is there: its part lies in the network, at a place that a usize holds, and the place has the number 0
+-- row k is there: the header and its part lie in the network, and the place has the number 0
 module _ (net : List ℕ) (k : ℕ) (s : shape net ≡ true) (l : k < rows net) where
-  pub row-part : (k < rowLimit) × (rowStart k + rowBytes ≤ length net)
-  row-part = (omega (arith, shape-rows net s .1), shape-within net s k l)
+  row-part : (headerBytes ≤ length net) × (rowStart net (suc k) ≤ length net)
+  row-part = (shape-least net s, shape-within net s k l)
 
   pub row-placed : placeNumber net k ≡ 0
   unfolding placeNumber placeRefusals
@@ -76,7 +70,7 @@ module _ (net : List ℕ) (k n : ℕ) (p : n ≡ placeNumber net k) where
     unfolding placeRefusals
     at-row = leb-false _ _ (none ROW)
 
-    pub at-part : (k < rowLimit) × (rowStart k + rowBytes ≤ length net)
+    pub at-part : (headerBytes ≤ length net) × (rowStart net (suc k) ≤ length net)
     at-part = row-part net k at-shape at-row
 
   -- and the call goes on with its own refusals l
@@ -109,14 +103,14 @@ module _ (net : List ℕ) (k n : ℕ) (p : n ≡ placeNumber net k) where
   data-done g z r e = rw (← p, eq-eqb _ _ z, e)
 
   -- the page's data stand at y, in the row at x, in the network at w
-  pub data-stands : (g : ℕ) → n ≡ 0 → (r : List ℕ) → r ≡ rowAt net k → (w x y : ℕ × ℕ) → x ≡ onward w (rowStart k)
+  pub data-stands : (g : ℕ) → n ≡ 0 → (r : List ℕ) → r ≡ rowAt net k → (w x y : ℕ × ℕ) → x ≡ onward w (rowStart net k)
       → (dataNumber r g ≡ 0 → y ≡ onward x (dataFrom r g))
       → netDataNumber net k g ≡ 0
       → y ≡ onward w (netDataFrom net k g)
   unfolding netDataNumber
   data-stands g z r e w x y a h q =
       let d = placed-asked _ z (dataNumber r g) (ap (λ (l : List ℕ). dataNumber l g) e) ∙ q in
-      onward-onward w x y _ _ a (h d) ∙ ap (λ (l : List ℕ). onward w (rowStart k + dataFrom l g)) e
+      onward-onward w x y _ _ a (h d) ∙ ap (λ (l : List ℕ). onward w (rowStart net k + dataFrom l g)) e
 
 -- ---- a call with the number 0, whose refusals are those of the place and its own: its row is there
 module _ (net : List ℕ) (k : ℕ) where
@@ -145,24 +139,25 @@ module _ (net : List ℕ) (k : ℕ) where
 
 -- ---- reading
 module _ (net : List ℕ) (k g n : ℕ) (p : n ≡ netReadNumber net k g) where
-  pub read-part : n ≡ 0 → (k < rowLimit) × (rowStart k + rowBytes ≤ length net)
+  pub read-part : n ≡ 0 → (headerBytes ≤ length net) × (rowStart net (suc k) ≤ length net)
   read-part z = at-part net k (placeNumber net k) refl (read-placed net k g (sym p ∙ z))
 
   pub read-refused : (n ≡ 0 → ⊥) → (_≡_ {A = Reading} (record { number = n; value = 0 }) (netReading net k g)) × (net ≡ netAfterRead net k g)
   unfolding netReading netAfterRead
   read-refused h = (rw (← p, ne-eqb _ _ h), rw (← p, ne-eqb _ _ h))
 
-  pub read-done : n ≡ 0 → (v : ℕ) (s : List ℕ) → v ≡ valueRead (lent net k) g → s ≡ rowAfterRead (lent net k) g
-      → (_≡_ {A = Reading} (record { number = 0; value = v }) (netReading net k g)) × (back net k s ≡ netAfterRead net k g)
+  -- the row is lent from a to e
+  pub read-done : n ≡ 0 → (a e : ℕ) → Lies net k a e → (v : ℕ) (s : List ℕ) → v ≡ valueRead (midOf a (e - a) net) g → s ≡ rowAfterRead (midOf a (e - a) net) g
+      → (_≡_ {A = Reading} (record { number = 0; value = v }) (netReading net k g)) × (putMid a (e - a) net s ≡ netAfterRead net k g)
   unfolding netReading netAfterRead
-  read-done z v s a b = (
-    rw (← p, z, a, mid-row),
-    put-row net k s ∙ rw (b ∙ ap (λ (r : List ℕ). rowAfterRead r g) (mid-row net k), ← p, eq-eqb _ _ z),
+  read-done z a e q v s c d = (
+    rw (← p, z, c, mid-row net k a e q),
+    row-done net k a e q (λ r. rowAfterRead r g) s d ∙ rw (← p, eq-eqb _ _ z),
   )
 
 -- ---- the lost-token timer
 module _ (net : List ℕ) (k n : ℕ) (p : n ≡ timerNumber net k) where
-  pub timer-part : n ≡ 0 → (k < rowLimit) × (rowStart k + rowBytes ≤ length net)
+  pub timer-part : n ≡ 0 → (headerBytes ≤ length net) × (rowStart net (suc k) ≤ length net)
   timer-part z = at-part net k (placeNumber net k) refl (timer-placed net k (sym p ∙ z))
 
   pub timer-refused : (n ≡ 0 → ⊥) → (n ≡ timerNumber net k) × (net ≡ netAfterTimer net k)

@@ -10,7 +10,7 @@ use borrow.Author.Tests.{ne-eqb, eqb-true}
 use Rattle.card.specs.Packets.{dataRefusals, dataNumber}
 use Rattle.bits.proofs.Words.Bools.{cases}
 use Rattle.card.proofs.Pages.Refused as card
-use Rattle.table.specs.Network.{rowAt}
+use Rattle.table.specs.Rows.{rowAt}
 use Rattle.table.specs.Calls.{placeNumber, netReading, netAfterRead, netWriteNumber, netAfterWrite, netAfterReset, timerNumber, netAfterTimer, netInterrupt, netData, netDataNumber, freshNumber, netAfterFresh}
 use Rattle.table.proofs.Access.Placed.{placed-asked}
 

@@ -8,7 +8,8 @@ use Rattle.registers.specs.Refusals.{writeRefusals}
 use Rattle.told.proofs.Told.Smallest.{rises-append, smallest}
 use Rattle.registers.proofs.Values.Rising.{read-rises, write-rises, write-last}
 use Rattle.card.proofs.Pages.Refused.{data-rises}
-use Rattle.table.specs.Network.{rowAt, regsAt}
+use Rattle.table.specs.Rows.{rowAt}
+use Rattle.table.specs.Network.{regsAt}
 use Rattle.table.specs.Calls.{placeRefusals, placeNumber, netReadRefusals, netReadNumber, netReading, duplicate, netWriteRefusals, netWriteNumber, timerRefusals, timerNumber, netInterrupt, netDataRefusals, netDataNumber, freshRefusals, freshNumber}
 use mathlib.Core.Bool.{true}
 

@@ -1,11 +1,12 @@
 -- The calls that may take a row on line or off line, put together from what their parts ensure.
 -- Assumes nothing.
-use mathlib.Core.Path.{_≡_, refl, sym, _∙_, ap}
+use mathlib.Core.Path.{_≡_, refl, sym, _∙_}
 use mathlib.Core.Bool.{Bool, true, false, not, _&&_}
 use mathlib.Core.List.{List, [], _∷_}
-use Prim.Native.Nat.{ℕ, _<_}
+use Prim.Native.Nat.{ℕ, _-_, _<_}
 use lib.Dec.{eqb, ltb}
 use borrow.Author.Tests.{eq-eqb, ne-eqb}
+use borrow.Rule.Slice.PartMut.{midOf, putMid}
 use Rattle.registers.specs.declared.regs.Regs.{Regs}
 use Rattle.told.specs.Numbers.{DONE, DUPLICATE, _when_, refuse}
 use Rattle.card.specs.Row.{putRegs}
@@ -16,11 +17,12 @@ use Rattle.card.specs.Access.{rowAfterWrite, rowAfterReset}
 use Rattle.registers.specs.Events.{burst}
 use Rattle.bits.proofs.Words.Bools.{and-assoc}
 use Rattle.told.proofs.Told.Smallest.{told-append}
-use Rattle.table.specs.Network.{rows, phase, holder, LOST, turned, regsAt, onLineAt, nodeOf, shape, rowAt, setRow}
+use Rattle.table.specs.Rows.{rowAt, setRow}
+use Rattle.table.specs.Network.{rows, phase, holder, LOST, turned, regsAt, onLineAt, nodeOf, shape}
 use Rattle.table.specs.Calls.{placeNumber, isHolder, settled, duplicate, rowWriteRefusals, netWriteNumber, netAfterWrite, netAfterReset}
-use Rattle.table.proofs.Rows.Networks.{mid-row, put-row}
+use Rattle.table.proofs.Rows.Walks.{Lies, row-done}
 use Rattle.table.proofs.Online.Nodes.{online-is}
-use Rattle.table.proofs.Access.Placed.{lent, back, row-placed, placed-asked}
+use Rattle.table.proofs.Access.Placed.{row-placed, placed-asked}
 
 -- ---- row k, as a call has left it, with the registers g
 module _ (net : List ℕ) (k : ℕ) (was : Bool) (g : Regs) (b : Bool) (p : g ≡ regsAt net k) (q : b ≡ onLine g) where
@@ -51,11 +53,11 @@ module _ (net : List ℕ) (k n : ℕ) (p : n ≡ placeNumber net k) where
   unfolding netAfterReset
   reset-refused h = (p, rw (← p, ne-eqb _ _ h))
 
-  pub reset-done : n ≡ 0 → (was : Bool) → was ≡ onLineAt net k → (s : List ℕ) → s ≡ rowAfterReset (lent net k)
-      → (m : List ℕ) → m ≡ settled (back net k s) k was → (0 ≡ placeNumber net k) × (m ≡ netAfterReset net k)
+  -- the row is lent from a to e
+  pub reset-done : n ≡ 0 → (was : Bool) → was ≡ onLineAt net k → (a e : ℕ) → Lies net k a e → (s : List ℕ) → s ≡ rowAfterReset (midOf a (e - a) net)
+      → (m : List ℕ) → m ≡ settled (putMid a (e - a) net s) k was → (0 ≡ placeNumber net k) × (m ≡ netAfterReset net k)
   unfolding netAfterReset
-  reset-done z was o s c m a =
-      (sym z ∙ p, a ∙ rw (put-row, c ∙ ap (λ (r : List ℕ). rowAfterReset r) (mid-row net k), o, ← p, eq-eqb _ _ z))
+  reset-done z was o a e q s c m d = (sym z ∙ p, d ∙ rw (row-done net k a e q rowAfterReset s c, o, ← p, eq-eqb _ _ z))
 
 -- ---- writing: DUPLICATE as the code asks it
 pub is-duplicate : (net : List ℕ) (k r : ℕ) (g : Regs) → g ≡ regsAt net k → (v : ℕ) (h : Regs) → h ≡ afterWrite g r v → (n : ℕ) → n ≡ rows net
@@ -68,11 +70,11 @@ module _ (net : List ℕ) (k r v n : ℕ) (p : n ≡ netWriteNumber net k r v) w
   unfolding netAfterWrite
   write-refused h = (p, rw (← p, ne-eqb _ _ h))
 
-  pub write-done : n ≡ 0 → (s : List ℕ) → s ≡ rowAfterWrite (lent net k) r v → (was : Bool) → was ≡ onLineAt net k
-      → (c : List ℕ) → c ≡ settled (back net k s) k was → (0 ≡ netWriteNumber net k r v) × (c ≡ netAfterWrite net k r v)
+  pub write-done : n ≡ 0 → (a e : ℕ) → Lies net k a e → (s : List ℕ) → s ≡ rowAfterWrite (midOf a (e - a) net) r v → (was : Bool) → was ≡ onLineAt net k
+      → (c : List ℕ) → c ≡ settled (putMid a (e - a) net s) k was → (0 ≡ netWriteNumber net k r v) × (c ≡ netAfterWrite net k r v)
   unfolding netAfterWrite
-  write-done z s t was b c a =
-      (sym z ∙ p, a ∙ rw (put-row, t ∙ ap (λ (row : List ℕ). rowAfterWrite row r v) (mid-row net k), b, ← p, eq-eqb _ _ z))
+  write-done z a e q s t was b c d =
+      (sym z ∙ p, d ∙ rw (row-done net k a e q (λ row. rowAfterWrite row r v) s t, b, ← p, eq-eqb _ _ z))
 
 -- in a network that SHAPE does not refuse: the card's number, and DUPLICATE behind it
 pub write-asked : (net : List ℕ) (k : ℕ) → shape net ≡ true → k < rows net → (r v : ℕ) (g : Regs) → g ≡ regsAt net k → (a : ℕ) → a ≡ writeNumber g r v

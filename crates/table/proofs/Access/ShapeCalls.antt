@@ -1,6 +1,6 @@
 -- Every call to a row keeps SHAPE, and a fresh network has it.
 -- Assumes nothing.
-use mathlib.Core.Path.{_≡_, refl, _∙_, sym}
+use mathlib.Core.Path.{_≡_, refl, sym}
 use mathlib.Core.Bool.{true, false}
 use mathlib.Core.List.{List, [], _∷_}
 use Prim.Native.Nat.{ℕ, _≤_, _<_}
@@ -14,16 +14,17 @@ use Rattle.card.specs.Access.{rowAfterRead, rowAfterWrite, rowAfterReset}
 use Rattle.registers.specs.Refusals.{writeRefusals, writeNumber}
 use Rattle.bits.proofs.Words.Bools.{pick-of}
 use Rattle.told.proofs.Told.Smallest.{told-both, none-refuses}
-use Rattle.card.proofs.Rows.Bytes.{length-put}
-use Rattle.card.proofs.Rows.WellFormed.{length-read, length-write, well-reset, well-write, well-fresh}
+use Rattle.card.proofs.Rows.Bytes.{size-put}
+use Rattle.card.proofs.Rows.WellFormed.{size-read, size-write, well-reset, well-write, well-fresh}
 use Rattle.card.proofs.Rows.WellFormed.{fresh-off}
 use Rattle.card.proofs.Words.Zeros.{zeros-replicate}
-use Rattle.table.specs.Network.{rowLimit, rows, rowAt, regsAt, onLineAt, isNode, nodeOf, shape}
+use Rattle.table.specs.Rows.{rowAt}
+use Rattle.table.specs.Network.{rowLimit, rows, regsAt, onLineAt, isNode, nodeOf, shape}
 use Rattle.table.specs.Calls.{placeRefusals, placeNumber, netReadNumber, netAfterRead, duplicate, rowWriteRefusals, netWriteNumber, netAfterWrite, netAfterReset, timerNumber, netAfterTimer, freshNet, freshNumber, netAfterFresh}
 use Rattle.table.proofs.Folds.{clash, seek-at-most}
 use Rattle.table.proofs.Online.Nodes.{other, nodeOf-fails}
 use Rattle.table.proofs.Rows.Headers.{header-of}
-use Rattle.table.proofs.Shaped.Shapes.{shape-row, shape-row-length, shape-of}
+use Rattle.table.proofs.Shaped.Shapes.{shape-row, shape-row-whole, shape-of}
 use Rattle.table.proofs.Shaped.Kept.{shape-put}
 use Rattle.table.proofs.Access.Placed.{read-placed, write-placed, timer-placed, row-there}
 use Rattle.table.proofs.Access.Fresh.{length-freshNet, rowAt-fresh, fresh-net, fresh-some, fresh-fits}
@@ -36,8 +37,8 @@ module _ (net : List ℕ) (s : shape net ≡ true) (k : ℕ) where
   shape-read g =
       pick-of (λ (x : List ℕ). shape x ≡ true) (eqb (netReadNumber net k g) 0)
       (λ z. let l = row-there net k (read-placed net k g (eqb-true _ _ z)) .1 in
-      let w = shape-row-length net s k l in
-      shape-put net k (rowAfterRead (rowAt net k) g) s l (length-read (rowAt net k) w g) (kept-read (rowAt net k) w g (shape-row net s k l)))
+      let w = shape-row-whole net s k l in
+      shape-put net k (rowAfterRead (rowAt net k) g) s l (size-read (rowAt net k) g) (kept-read (rowAt net k) w g (shape-row net s k l)))
       (λ _. s)
 
   pub shape-timer : shape (netAfterTimer net k) ≡ true
@@ -53,8 +54,8 @@ module _ (net : List ℕ) (s : shape net ≡ true) (k : ℕ) where
   shape-reset =
       pick-of (λ (x : List ℕ). shape x ≡ true) (eqb (placeNumber net k) 0)
       (λ z. let l = row-there net k (eqb-true _ _ z) .1 in
-      let w = shape-row-length net s k l in
-      shape-settled net s k l (rowAfterReset (rowAt net k)) (length-put (rowAt net k) hardwareReset ∙ w) (well-reset (rowAt net k) w (shape-row net s k l))
+      let w = shape-row-whole net s k l in
+      shape-settled net s k l (rowAfterReset (rowAt net k)) (size-put (rowAt net k) hardwareReset) (well-reset (rowAt net k) w (shape-row net s k l))
       (λ o. absurd (clash o (reset-off (rowAt net k) w))))
       (λ _. s)
 
@@ -82,8 +83,8 @@ module _ (net : List ℕ) (s : shape net ≡ true) (k : ℕ) where
         pick-of (λ (x : List ℕ). shape x ≡ true) (eqb (netWriteNumber net k g v) 0)
         (λ z. let n = eqb-true _ _ z in
         let l = row-there net k (write-placed net k g v n) .1 in
-        let w = shape-row-length net s k l in
-        shape-settled net s k l (rowAfterWrite (rowAt net k) g v) (length-write (rowAt net k) w g v)
+        let w = shape-row-whole net s k l in
+        shape-settled net s k l (rowAfterWrite (rowAt net k) g v) (size-write (rowAt net k) g v)
         (well-write (rowAt net k) w (shape-row net s k l) g v (unrefused n .0)) (rw (regs-write (rowAt net k) w g v) (single n)))
         (λ _. s)
 

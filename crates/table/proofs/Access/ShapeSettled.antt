@@ -2,57 +2,47 @@
 -- Assumes nothing.
 use mathlib.Core.Path.{_≡_, sym, _∙_, ap}
 use mathlib.Core.Bool.{true, false, _&&_}
-use mathlib.Core.List.{List, _++_}
-use Prim.Native.Nat.{ℕ, _≤_, _<_}
+use mathlib.Core.List.{List}
+use Prim.Native.Nat.{ℕ, _<_}
 use native.Mathlib.Omega.{arith}
 use lib.Dec.{lit<}
-use lib.ListN.{length, getD, set, take, drop, length-set}
-use lib.Seq.{length-take-le, set-append-left, take-set-lt, drop-set-lt}
+use lib.ListN.{getD}
 use borrow.Author.Tests.{eq-eqb, ne-eqb}
-use Rattle.card.specs.Row.{rowBytes, regsOf, wellFormed}
+use Rattle.card.specs.Row.{regsOf, wellFormed}
 use Rattle.registers.specs.Fit.{onLine}
 use Rattle.registers.specs.Events.{burst}
 use Rattle.bits.proofs.Words.Bools.{pick-of}
-use Rattle.card.proofs.Rows.Bytes.{length-put}
-use Rattle.table.specs.Network.{headerBytes, rowStart, rows, phase, holder, LOST, turned, rowAt, setRow, onRegs, onLineAt, isNode, shape}
+use Rattle.card.proofs.Rows.Sizes.{SameSize}
+use Rattle.card.proofs.Rows.Bytes.{size-put}
+use Rattle.table.specs.Rows.{headerBytes, rowAt, setRow}
+use Rattle.table.specs.Network.{rows, phase, holder, LOST, turned, onRegs, onLineAt, isNode, shape}
 use Rattle.table.specs.Calls.{isHolder, settled}
 use Rattle.table.proofs.Folds.{clash}
-use Rattle.table.proofs.Rows.Networks.{setRow-header, rowAt-setRow, phase-turned, rows-turned}
-use Rattle.table.proofs.Shaped.Shapes.{shape-within, shape-row, shape-row-length, shape-holder}
+use Rattle.table.proofs.Rows.Starts.{start-mono, frame-byte}
+use Rattle.table.proofs.Rows.WithRows.{rowAt-setRow, setRow-frame}
+use Rattle.table.proofs.Rows.Networks.{rowAt-turned, phase-turned, rows-turned, turned-setRow}
+use Rattle.table.proofs.Shaped.Shapes.{shape-least, shape-room, shape-row, shape-row-whole, shape-holder}
 use Rattle.table.proofs.Shaped.Kept.{shape-put, shape-change, turned-lost}
 use Rattle.table.proofs.Shaped.KeptRows.{kept-burst}
-
--- ---- another phase and another row, in either order
-set-setRow : (net : List ℕ) (k : ℕ) (r : List ℕ) (i v : ℕ) → i < headerBytes → rowStart k ≤ length net → set (setRow net k r) i v ≡ setRow (set net i v) k r
-unfolding setRow
-set-setRow net k r i v l h =
-    let c : i < rowStart k = omega arith in
-    set-append-left (take (rowStart k) net) (r ++ drop rowBytes (drop (rowStart k) net)) i v (omega (arith, length-take-le (rowStart k) net h))
-    ∙ sym (rw (take-set-lt (rowStart k) net i v c, drop-set-lt (rowStart k) net i v c))
-
-turned-setRow : (net : List ℕ) (k : ℕ) (r : List ℕ) (p h : ℕ) → rowStart k ≤ length net → turned (setRow net k r) p h ≡ setRow (turned net p h) k r
-unfolding turned
-turned-setRow net k r p h l =
-    ap (λ (x : List ℕ). set x 5 h) (set-setRow net k r 4 p (lit< tt) l) ∙ set-setRow (set net 4 p) k r 5 h (lit< tt) (simp length-set l)
 
 -- ---- row k bursts, and the line is lost
 pub shape-burst : (net : List ℕ) → shape net ≡ true → (k : ℕ) → k < rows net → shape (turned (setRow net k (onRegs burst (rowAt net k))) LOST 0) ≡ true
 shape-burst net s k l =
-    let w = shape-row-length net s k l in
-    turned-lost _ (shape-put net k (onRegs burst (rowAt net k)) s l (length-put (rowAt net k) _ ∙ w) (kept-burst (rowAt net k) w (shape-row net s k l)))
+    let w = shape-row-whole net s k l in
+    turned-lost _ (shape-put net k (onRegs burst (rowAt net k)) s l (size-put (rowAt net k) _) (kept-burst (rowAt net k) w (shape-row net s k l)))
 
 module _ (net : List ℕ) (s : shape net ≡ true) (k : ℕ) where
   -- ---- the row r in the place of row k, settled: no other on-line row has its ID
-  module _ (l : k < rows net) (r : List ℕ) (e : length r ≡ rowBytes) (w : wellFormed r ≡ true)
+  module _ (l : k < rows net) (r : List ℕ) (e : SameSize (rowAt net k) r) (w : wellFormed r ≡ true)
       (d : onLine (regsOf r) ≡ true → (j : ℕ) → j < rows net → (j ≡ k → ⊥) → isNode net (regsOf r .id) j ≡ false) where
     abbrev new : List ℕ
     new = setRow net k r
 
     here : rowAt new k ≡ r
-    here = rowAt-setRow net k r (shape-within net s k l) e
+    here = rowAt-setRow net (rows net) (shape-room net s) k l r e
 
     headed : (x : ℕ) → x < headerBytes → getD new x 0 ≡ getD net x 0
-    headed = setRow-header net k r (shape-within net s k l) e
+    headed = frame-byte (setRow-frame net (rows net) (shape-room net s) k l r e)
 
     on-keeps : onLine (regsOf r) ≡ true → shape new ≡ true
     on-keeps t = shape-change net k r s l e w d (λ p h. t)
@@ -68,11 +58,10 @@ module _ (net : List ℕ) (s : shape net ≡ true) (k : ℕ) where
 
     lost-keeps : onLine (regsOf r) ≡ false → shape (turned new LOST 0) ≡ true
     lost-keeps t =
-        let b = shape-within net s k l in
         let m : rows (turned net LOST 0) ≡ rows net = rows-turned net LOST 0 in
-        rw (turned-setRow net k r LOST 0 (omega arith))
-        (shape-change (turned net LOST 0) k r (turned-lost net s) (omega arith) e w (λ o. absurd (clash o t))
-        (λ p. absurd (p (phase-turned net LOST 0 (omega arith)))))
+        rw (turned-setRow net k r LOST 0 (omega (arith, shape-room net s, start-mono net k (rows net) (omega arith))))
+        (shape-change (turned net LOST 0) k r (turned-lost net s) (omega arith) (rw (rowAt-turned net LOST 0 k) e) w (λ o. absurd (clash o t))
+        (λ p. absurd (p (phase-turned net LOST 0 (shape-least net s)))))
 
     pub shape-settled : shape (settled new k (onLineAt net k)) ≡ true
     unfolding settled onLineAt

@@ -4,29 +4,33 @@ use mathlib.Core.Path.{_≡_, refl, sym, _∙_, ap}
 use mathlib.Core.Bool.{true, false}
 use mathlib.Core.List.{List}
 use mathlib.Core.Logic.{⊎-elim}
-use Prim.Native.Nat.{ℕ, _+_, _≤_, _<_}
+use Prim.Native.Nat.{ℕ, _≤_, _<_}
 use native.Mathlib.Omega.{arith}
 use lib.Dec.{eqb}
 use lib.ListN.{length}
 use borrow.Author.Tests.{eqb-false, le-ltb}
 use Rattle.registers.specs.declared.regs.Regs.{Regs}
 use Rattle.told.proofs.Told.Smallest.{refuse-passed}
-use Rattle.card.specs.Row.{rowBytes, regsOf}
+use Rattle.card.specs.Row.{regsOf}
 use Rattle.registers.specs.Fit.{onLine}
 use Rattle.registers.specs.Registers.{afterWrite}
 use Rattle.registers.specs.Refusals.{writeNumber}
 use Rattle.card.specs.Access.{rowAfterWrite}
 use Rattle.registers.specs.Events.{burst}
 use Rattle.bits.proofs.Words.Bools.{cases, and-false}
-use Rattle.card.proofs.Rows.Bytes.{regs-put, length-put}
-use Rattle.card.proofs.Rows.WellFormed.{length-write}
+use Rattle.card.proofs.Rows.Sizes.{SameSize, whole-registers}
+use Rattle.card.proofs.Rows.Bytes.{regs-put, size-put}
+use Rattle.card.proofs.Rows.WellFormed.{size-write}
 use Rattle.told.specs.Numbers.{DUPLICATE}
-use Rattle.table.specs.Network.{rowStart, rows, phase, LOST, rowAt, setRow, onRegs, regsAt, onLineAt, isNode, nodeOf, shape}
+use Rattle.table.specs.Rows.{rowStart, rowAt, setRow}
+use Rattle.table.specs.Network.{rows, phase, LOST, onRegs, regsAt, onLineAt, isNode, nodeOf, shape}
 use Rattle.table.specs.Calls.{settled, duplicate, netWriteNumber, netAfterWrite}
 use Rattle.table.proofs.Folds.{seek-not}
-use Rattle.table.proofs.Rows.Networks.{length-rowAt, length-setRow, rowAt-setRow, rowAt-turned}
+use Rattle.table.proofs.Rows.Starts.{frame-within}
+use Rattle.table.proofs.Rows.WithRows.{row-whole, rowAt-setRow, setRow-frame}
+use Rattle.table.proofs.Rows.Networks.{rowAt-turned}
 use Rattle.table.proofs.Online.Nodes.{other, node-same}
-use Rattle.table.proofs.Shaped.Shapes.{shape-within, shape-row-length}
+use Rattle.table.proofs.Shaped.Shapes.{shape-room, shape-row-whole}
 use Rattle.table.proofs.Access.Settled.{write-asked}
 use Rattle.table.proofs.Shaped.KeptRows.{regs-write}
 use Rattle.table.proofs.Access.ShapeCalls.{shape-write}
@@ -75,7 +79,7 @@ module _ (old net : List ℕ) (k : ℕ) (g : Regs) (w : Written old net k g) (l 
         lost = b .lost (w .lost);
         count = beside-count b ∙ w .count;
         regs = e;
-        others = λ j lj n. b .others j n (shape-within net (w .shaped) j (omega (arith, w .count))) ∙ w .others j lj n;
+        others = λ j lj n. b .others j n (omega (arith, w .count)) ∙ w .others j lj n;
       }
 
   module _ (d : duplicate net k r v ≡ false) where
@@ -89,16 +93,16 @@ module _ (old net : List ℕ) (k : ℕ) (g : Regs) (w : Written old net k g) (l 
     unfolding netAfterWrite
     after = rw (taken, was)
 
-    size : length (rowAfterWrite (rowAt net k) r v) ≡ rowBytes
-    size = length-write (rowAt net k) (shape-row-length net (w .shaped) k low) r v
+    size : SameSize (rowAt net k) (rowAfterWrite (rowAt net k) r v)
+    size = size-write (rowAt net k) r v
 
-    inside : rowStart k + rowBytes ≤ length net
-    inside = shape-within net (w .shaped) k low
+    inside : rowStart net (rows net) ≤ length net
+    inside = shape-room net (w .shaped)
 
     here : regsAt put k ≡ h
     here =
-        ap regsOf (rowAt-setRow net k (rowAfterWrite (rowAt net k) r v) inside size)
-        ∙ regs-write (rowAt net k) (shape-row-length net (w .shaped) k low) r v
+        ap regsOf (rowAt-setRow net (rows net) inside k low (rowAfterWrite (rowAt net k) r v) size)
+        ∙ regs-write (rowAt net k) (shape-row-whole net (w .shaped) k low) r v
         ∙ ap (λ (x : Regs). afterWrite x r v) (w .regs)
 
     stays : onLine h ≡ false → regsAt new k ≡ h
@@ -108,11 +112,9 @@ module _ (old net : List ℕ) (k : ℕ) (g : Regs) (w : Written old net k g) (l 
     joins : onLine h ≡ true → regsAt new k ≡ burst h
     unfolding settled onLineAt
     joins q =
-        let m : length (setRow net k (rowAfterWrite (rowAt net k) r v)) ≡ length net = length-setRow net k _ inside size in
-        let f : rowStart k + rowBytes ≤ length put = omega (arith, inside) in
-        let t = length-rowAt put k f in
-        rw (after, ap onLine here ∙ q, rowAt-turned, rowAt-setRow put k (onRegs burst (rowAt put k)) f (length-put (rowAt put k) (burst (regsAt put k)) ∙ t))
-        (regs-put (rowAt put k) (burst (regsAt put k)) (omega arith) ∙ ap burst here)
+        let f : rowStart put (rows net) ≤ length put = frame-within (setRow-frame net (rows net) inside k low _ size) inside in
+        rw (after, ap onLine here ∙ q, rowAt-turned, rowAt-setRow put (rows net) f k low (onRegs burst (rowAt put k)) (size-put (rowAt put k) (burst (regsAt put k))))
+        (regs-put (rowAt put k) (burst (regsAt put k)) (whole-registers (rowAt put k) (row-whole put (rows net) f k low)) ∙ ap burst here)
 
   -- it stays off line
   pub write-stays : onLine h ≡ false → (netWriteNumber net k r v ≡ 0) × Written old new k h

@@ -14,7 +14,8 @@ use Rattle.registers.specs.Fit.{onLine}
 use Rattle.bits.proofs.Words.Bools.{and-left, and-right, and-true, pick-of}
 use Rattle.registers.proofs.Values.SameCard.{on-line-id}
 use Rattle.table.specs.Folds.{some, seek}
-use Rattle.table.specs.Network.{rowAt, regsAt, onLineAt, isNode, nodeOf, topId}
+use Rattle.table.specs.Rows.{rowAt}
+use Rattle.table.specs.Network.{regsAt, onLineAt, isNode, nodeOf, topId}
 use Rattle.table.proofs.Folds.{clash, seek-at-most, seek-found, seek-least, seek-same, some-found, some-missed}
 
 -- ---- the highest ID

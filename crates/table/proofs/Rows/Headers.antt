@@ -1,7 +1,7 @@
 -- What a well formed header says, part by part, and what makes one.
 -- Assumes nothing.
 use mathlib.Core.Path.{_≡_, refl, sym, _∙_, ap}
-use mathlib.Core.Bool.{Bool, true, false, not}
+use mathlib.Core.Bool.{Bool, true, false, not, _&&_}
 use mathlib.Core.List.{List, [], _∷_}
 use Prim.Native.Nat.{ℕ, _+_, _≤_, _<_}
 use native.Mathlib.Omega.{arith}
@@ -11,13 +11,16 @@ use lib.Seq.{length-take-le, getD-take, getD-drop, ext-getD}
 use borrow.Author.Tests.{eqb-true, eq-eqb, ltb-true, lt-ltb, leb-true, le-leb, not-false}
 use Rattle.card.specs.Row.{zeros}
 use Rattle.bits.proofs.Words.Bools.{holds}
-use Rattle.table.specs.Network.{headerBytes, mark, rowLimit, rows, phase, rowStart, headerFits}
+use Rattle.table.specs.Rows.{headerBytes, rowStart, walked}
+use Rattle.table.specs.Network.{mark, rowLimit, rows, phase, headerFits}
+use Rattle.table.proofs.Rows.Starts.{start-least}
+use Rattle.table.proofs.Rows.Walks.{walked-fits}
 
 -- the tests of `headerFits`
 abbrev tests : List ℕ → List Bool
 tests net =
     eqb (getD net 0 0) (getD mark 0 0) ∷ eqb (getD net 1 0) (getD mark 1 0) ∷ eqb (getD net 2 0) 1 ∷ ltb 0 (rows net) ∷ leb (rows net) rowLimit
-    ∷ ltb (phase net) 3 ∷ zeros (take 10 (drop 6 net)) ∷ eqb (length net) (rowStart (rows net)) ∷ []
+    ∷ ltb (phase net) 3 ∷ zeros (take 10 (drop 6 net)) ∷ eqb (length net) (rowStart net (rows net)) ∷ []
 
 module _ (net : List ℕ) (t : headerFits net ≡ true) where
   at : (i : ℕ) → i < 8 → getD (tests net) i true ≡ true
@@ -36,20 +39,20 @@ module _ (net : List ℕ) (t : headerFits net ≡ true) where
   pub header-zeros : zeros (take 10 (drop 6 net)) ≡ true
   header-zeros = at 6 (lit< tt)
 
-  pub header-length : length net ≡ rowStart (rows net)
+  pub header-length : length net ≡ rowStart net (rows net)
   header-length = eqb-true _ _ (at 7 (lit< tt))
 
 pub header-of : (net : List ℕ) → (getD net 0 0 ≡ getD mark 0 0) × (getD net 1 0 ≡ getD mark 1 0) × (getD net 2 0 ≡ 1)
-    → (0 < rows net) × (rows net ≤ rowLimit) → phase net < 3 → zeros (take 10 (drop 6 net)) ≡ true → length net ≡ rowStart (rows net)
+    → (0 < rows net) × (rows net ≤ rowLimit) → phase net < 3 → zeros (take 10 (drop 6 net)) ≡ true → length net ≡ rowStart net (rows net)
     → headerFits net ≡ true
 unfolding headerFits
 header-of net m n p z l =
     simp (eq-eqb _ _ (m .0), eq-eqb _ _ (m .1), eq-eqb _ _ (m .2), lt-ltb _ _ (n .0), le-leb _ _ (n .1), lt-ltb _ _ p, z, eq-eqb _ _ l)
 
--- a header that differs in its phase and its holder alone
-pub header-kept : (net new : List ℕ) → headerFits net ≡ true → length new ≡ length net
+-- a header that differs in its phase and its holder alone, where the rows end at the same place
+pub header-kept : (net new : List ℕ) → headerFits net ≡ true → length new ≡ length net → rowStart new (rows net) ≡ rowStart net (rows net)
     → ((x : ℕ) → x < headerBytes → (x ≡ 4 → ⊥) → (x ≡ 5 → ⊥) → getD new x 0 ≡ getD net x 0) → phase new < 3 → headerFits new ≡ true
-header-kept net new t l e p =
+header-kept net new t l w e p =
     let m = header-marks net t in
     let n = header-rows net t in
     let r = e 3 (lit< tt) (λ q. omega arith) (λ q. omega arith) in
@@ -58,17 +61,25 @@ header-kept net new t l e p =
       e 1 (lit< tt) (λ q. omega arith) (λ q. omega arith) ∙ m .1,
       e 2 (lit< tt) (λ q. omega arith) (λ q. omega arith) ∙ m .2,
     )
-    (omega arith, omega arith) p (ap zeros same ∙ header-zeros net t) (l ∙ header-length net t ∙ ap rowStart (sym r))
+    (omega arith, omega arith) p (ap zeros same ∙ header-zeros net t) (l ∙ header-length net t ∙ sym w ∙ ap (rowStart new) (sym r))
   where
     same : take 10 (drop 6 new) ≡ take 10 (drop 6 net)
     same =
         let long : (s : List ℕ) → length s ≡ length net → length (take 10 (drop 6 s)) ≡ 10
-        = λ s q. length-take-le 10 (drop 6 s) (simp length-drop (omega (arith, header-length net t))) in
+        = λ s q. length-take-le 10 (drop 6 s) (simp length-drop (omega (arith, header-length net t, start-least net (rows net)))) in
         ext-getD 0 (take 10 (drop 6 new)) (take 10 (drop 6 net)) (long new l ∙ sym (long net refl))
         (λ i b. let h : i < 10 = omega (arith, long new l) in
         getD-take 10 (drop 6 new) i 0 h ∙ getD-drop 6 new i 0 ∙ e (6 + i) (omega arith) (λ q. omega arith) (λ q. omega arith)
         ∙ sym (getD-take 10 (drop 6 net) i 0 h ∙ getD-drop 6 net i 0))
 
+-- the header as the code asks it, where the walk over the rows comes to a
+pub header-asked : (net : List ℕ) → headerBytes ≤ length net → (n : ℕ) → n ≡ rows net → (p : ℕ) → p ≡ phase net
+    → (z : Bool) → z ≡ zeros (take 10 (drop 6 net)) → (a : ℕ) → a ≡ walked net n
+    → (eqb (getD net 0 0) (getD mark 0 0) && eqb (getD net 1 0) (getD mark 1 0) && eqb (getD net 2 0) 1 && ltb 0 n && leb n rowLimit
+    && ltb p 3 && z && eqb (length net) a) ≡ headerFits net
+unfolding headerFits
+header-asked net h n d p q z e a f = rw (walked-fits net n a f (omega arith), d, q, e)
+
 -- what the code learns of the length where it does not refuse the header
-pub header-told : (net : List ℕ) (b : Bool) → b ≡ headerFits net → not b ≡ false → rowStart (rows net) ≤ length net
+pub header-told : (net : List ℕ) (b : Bool) → b ≡ headerFits net → not b ≡ false → rowStart net (rows net) ≤ length net
 header-told net b e f = omega (arith, header-length net (sym e ∙ not-false b f))

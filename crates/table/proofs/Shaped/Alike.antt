@@ -4,28 +4,30 @@ use mathlib.Core.Path.{_≡_, refl, _∙_}
 use mathlib.Core.Bool.{true, false}
 use mathlib.Core.List.{List}
 use mathlib.Core.Logic.{⊎-elim}
-use Prim.Native.Nat.{ℕ, _+_, _≤_, _<_}
+use Prim.Native.Nat.{ℕ, _+_, _<_}
 use native.Mathlib.Omega.{arith}
 use lib.Dec.{ltb}
 use lib.ListN.{length, List·getD-eq-default}
 use borrow.Author.Tests.{ltb-true, ltb-false}
-use Rattle.card.specs.Row.{rowBytes}
 use Rattle.bits.proofs.Words.Bools.{cases}
 use Rattle.card.proofs.Pages.Packets.{Ram}
 use Rattle.card.proofs.Rows.Rams.{Small, id-byte}
-use Rattle.table.specs.Network.{Bytes, rowStart, rows, turned, rowAt, regsAt, onLineAt, shape}
-use Rattle.table.proofs.Rows.Networks.{length-rowAt, getD-rowAt, rowAt-turned, rows-turned}
+use Rattle.table.specs.Rows.{rowStart, rowAt}
+use Rattle.table.specs.Network.{Bytes, rows, turned, regsAt, onLineAt, shape}
+use Rattle.table.proofs.Rows.WithRows.{getD-rowAt}
+use Rattle.table.proofs.Rows.Networks.{rowAt-turned, rows-turned}
 use Rattle.table.proofs.Online.Nodes.{online-same}
-use Rattle.table.proofs.Shaped.Shapes.{shape-within}
+use Rattle.table.proofs.Shaped.Shapes.{shape-room}
 use Rattle.table.proofs.Shaped.Kept.{Became}
 use Rattle.table.proofs.Shaped.Became.{Moved, became-rows, shape-moved, moved-online}
 
 -- ---- the bytes of a network are bytes, and so are those of a row
-bytes-row : (net : List ℕ) → Bytes net → (k : ℕ) → rowStart k + rowBytes ≤ length net → Small (rowAt net k)
-bytes-row net b k l i =
-    ⊎-elim (λ (t : ltb i rowBytes ≡ true). rw (getD-rowAt net k i (ltb-true i rowBytes t)) (b (rowStart k + i)))
-    (λ (t : ltb i rowBytes ≡ false). rw (List·getD-eq-default (rowAt net k) 0 {n = i} (omega (arith, length-rowAt net k l, ltb-false i rowBytes t))) (omega arith))
-    (cases (ltb i rowBytes))
+bytes-row : (net : List ℕ) → shape net ≡ true → Bytes net → (k : ℕ) → k < rows net → Small (rowAt net k)
+bytes-row net s b k l i =
+    let e = length (rowAt net k) in
+    ⊎-elim (λ (t : ltb i e ≡ true). rw (getD-rowAt net (rows net) (shape-room net s) k l i (ltb-true i e t)) (b (rowStart net k + i)))
+    (λ (t : ltb i e ≡ false). rw (List·getD-eq-default (rowAt net k) 0 {n = i} (ltb-false i e t)) (omega arith))
+    (cases (ltb i e))
 
 -- each row's RAM is of bytes, and its ID is a byte
 abbrev pub Rams : List ℕ → Type 0
@@ -33,7 +35,7 @@ Rams net = (k : ℕ) → k < rows net → Ram (rowAt net k) × (regsAt net k .id
 
 pub bytes-rams : (net : List ℕ) → shape net ≡ true → Bytes net → Rams net
 bytes-rams net s b k l =
-    let q = bytes-row net b k (shape-within net s k l) in
+    let q = bytes-row net s b k l in
     (λ i _. q i, id-byte (rowAt net k) q)
 
 -- ---- new is well formed, with the rows of net: the same IDs, and the same rows on line

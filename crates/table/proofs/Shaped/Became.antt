@@ -4,13 +4,14 @@ use mathlib.Core.Path.{_≡_, refl, _∙_, ap}
 use mathlib.Core.Bool.{true}
 use mathlib.Core.List.{List}
 use Prim.Native.Nat.{ℕ, _<_}
-use lib.Dec.{lit<}
 use Rattle.registers.specs.declared.regs.Regs.{Regs}
 use Rattle.card.specs.Row.{regsOf, wellFormed}
 use Rattle.registers.specs.Fit.{onLine}
 use Rattle.card.proofs.Pages.Packets.{Ram}
-use Rattle.table.specs.Network.{rows, phase, holder, rowAt, onLineAt, shape}
+use Rattle.table.specs.Rows.{rowAt}
+use Rattle.table.specs.Network.{rows, onLineAt, shape}
 use Rattle.table.proofs.Shaped.Kept.{Kept, kept-same, Became, shape-became}
+pub use Rattle.table.proofs.Shaped.Kept.{became-rows, became-phase, became-holder}
 
 -- ---- a row: kept, and with a RAM of bytes where it had one and its ID is a byte; and with the NID that it had
 pub record Moved (r s : List ℕ) : Type 0 where
@@ -45,17 +46,8 @@ still-after a b = record { moved = moved-after (a .moved) (b .moved); nid = b .n
 
 -- ---- a network
 module _ {R : List ℕ → List ℕ → Type 0} {net new : List ℕ} (c : Became R net new) where
-  pub became-rows : rows new ≡ rows net
-  became-rows = c .header 3 (lit< tt)
-
-  pub became-phase : phase new ≡ phase net
-  became-phase = c .header 4 (lit< tt)
-
-  pub became-holder : holder new ≡ holder net
-  became-holder = c .header 5 (lit< tt)
-
   became-map : {S : List ℕ → List ℕ → Type 0} → ((r s : List ℕ) → R r s → S r s) → Became S net new
-  became-map f = record { long = c .long; header = c .header; row = λ k l. f (rowAt net k) (rowAt new k) (c .row k l) }
+  became-map f = record { frame = c .frame; row = λ k l. f (rowAt net k) (rowAt new k) (c .row k l) }
 
 module _ {net new : List ℕ} where
   pub still-moved : Became Still net new → Became Moved net new

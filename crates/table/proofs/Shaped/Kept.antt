@@ -4,20 +4,24 @@ use mathlib.Core.Path.{_≡_, refl, sym, _∙_, ap}
 use mathlib.Core.Bool.{true, false}
 use mathlib.Core.List.{List}
 use mathlib.Core.Logic.{⊎-elim}
-use Prim.Native.Nat.{ℕ, _≤_, _<_}
+use Prim.Native.Nat.{ℕ, _<_}
 use native.Mathlib.Omega.{arith}
 use lib.Dec.{eqb, lit<}
-use lib.ListN.{length, getD}
+use lib.ListN.{getD}
 use borrow.Author.Tests.{eqb-true, eqb-false}
-use Rattle.card.specs.Row.{rowBytes, regsOf, wellFormed}
+use Rattle.card.specs.Row.{regsOf, wellFormed}
 use Rattle.registers.specs.Fit.{onLine}
 use Rattle.bits.proofs.Words.Bools.{cases}
-use Rattle.table.specs.Network.{headerBytes, rows, phase, holder, LOST, turned, rowAt, setRow, regsAt, onLineAt, isNode, shape}
+use Rattle.card.proofs.Rows.Sizes.{SameSize}
+use Rattle.table.specs.Rows.{headerBytes, rowAt, setRow}
+use Rattle.table.specs.Network.{rows, phase, holder, LOST, turned, regsAt, onLineAt, isNode, shape}
 use Rattle.table.proofs.Folds.{clash}
-use Rattle.table.proofs.Rows.Networks.{length-setRow, setRow-header, rowAt-setRow, rowAt-setRow-other, length-turned, rowAt-turned, turned-other, rows-turned, phase-turned, holder-turned}
+use Rattle.table.proofs.Rows.Starts.{Frame, frame-byte}
+use Rattle.table.proofs.Rows.WithRows.{rowAt-setRow, rowAt-setRow-other, setRow-frame}
+use Rattle.table.proofs.Rows.Networks.{length-turned, start-turned, rowAt-turned, turned-other, rows-turned, phase-turned, holder-turned}
 use Rattle.table.proofs.Online.Nodes.{online-same, node-of}
 use Rattle.table.proofs.Rows.Headers.{header-kept}
-use Rattle.table.proofs.Shaped.Shapes.{OnLineRow, shape-header, shape-length, shape-within, shape-row, shape-ids, shape-phase, shape-holder, shape-lost, shape-of}
+use Rattle.table.proofs.Shaped.Shapes.{OnLineRow, shape-header, shape-least, shape-room, shape-row, shape-ids, shape-phase, shape-holder, shape-lost, shape-of}
 
 -- the row s in the place of the row r: well formed, with r's ID, and on line as r is
 pub record Kept (r s : List ℕ) : Type 0 where
@@ -28,21 +32,30 @@ pub record Kept (r s : List ℕ) : Type 0 where
 pub kept-same : (r : List ℕ) → wellFormed r ≡ true → Kept r r
 kept-same r w = record { well = w; id = refl; online = refl }
 
--- what a network became: its header is as it was, and R holds of each row and what it became
+-- what a network became: its header is as it was, each row stands where it stood, and R holds of each row and what it became
 pub record Became (R : List ℕ → List ℕ → Type 0) (net new : List ℕ) : Type 0 where
-  pub long : length new ≡ length net
-  pub header : (x : ℕ) → x < headerBytes → getD new x 0 ≡ getD net x 0
+  pub frame : Frame net new (rows net)
   pub row : (k : ℕ) → k < rows net → R (rowAt net k) (rowAt new k)
+
+module _ {R : List ℕ → List ℕ → Type 0} {net new : List ℕ} (c : Became R net new) where
+  pub became-rows : rows new ≡ rows net
+  became-rows = frame-byte (c .frame) 3 (lit< tt)
+
+  pub became-phase : phase new ≡ phase net
+  became-phase = frame-byte (c .frame) 4 (lit< tt)
+
+  pub became-holder : holder new ≡ holder net
+  became-holder = frame-byte (c .frame) 5 (lit< tt)
 
 pub shape-became : (net new : List ℕ) → shape net ≡ true → Became Kept net new → shape new ≡ true
 unfolding onLineAt
 shape-became net new s c =
-    let n : rows new ≡ rows net = c .header 3 (lit< tt) in
-    let ph : phase new ≡ phase net = c .header 4 (lit< tt) in
-    let ho : holder new ≡ holder net = c .header 5 (lit< tt) in
+    let n = became-rows c in
+    let ph = became-phase c in
+    let ho = became-holder c in
     let same : (k : ℕ) → k < rows net → onLineAt new k ≡ onLineAt net k = λ k b. c .row k b .online in
     shape-of new
-    (header-kept net new (shape-header net s) (c .long) (λ x b u v. c .header x b) (omega (arith, shape-phase net s)))
+    (header-kept net new (shape-header net s) (c .frame .size) (c .frame .starts (rows net) (omega arith)) (λ x b u v. frame-byte (c .frame) x b) (omega (arith, shape-phase net s)))
     (λ k b. c .row k (omega arith) .well)
     (λ j k bj bk p o i. let dj : j < rows net = omega arith in
     let dk : k < rows net = omega arith in
@@ -51,41 +64,41 @@ shape-became net new s c =
     (λ p. let h = shape-holder net s (λ z. p (ph ∙ z)) in (omega arith, ap (onLineAt new) ho ∙ same (holder net) (h .0) ∙ h .1))
 
 -- another row k, where R holds of a row and itself
-pub became-put : {R : List ℕ → List ℕ → Type 0} (net : List ℕ) (k : ℕ) (r : List ℕ) → shape net ≡ true → k < rows net → length r ≡ rowBytes
+pub became-put : {R : List ℕ → List ℕ → Type 0} (net : List ℕ) (k : ℕ) (r : List ℕ) → shape net ≡ true → k < rows net → SameSize (rowAt net k) r
     → R (rowAt net k) r → ((j : ℕ) → j < rows net → R (rowAt net j) (rowAt net j)) → Became R net (setRow net k r)
 became-put net k r s l e q same =
-    let b = shape-within net s k l in record {
-      long = length-setRow net k r b e;
-      header = setRow-header net k r b e;
+    let b = shape-room net s in record {
+      frame = setRow-frame net (rows net) b k l r e;
       row = λ j lj. ⊎-elim
-          (λ (t : eqb j k ≡ true). rw (eqb-true j k t, rowAt-setRow net k r b e) q)
-          (λ (t : eqb j k ≡ false). rw (rowAt-setRow-other net k r b e j (eqb-false j k t) (shape-within net s j lj)) (same j lj))
+          (λ (t : eqb j k ≡ true). rw (eqb-true j k t, rowAt-setRow net (rows net) b k l r e) q)
+          (λ (t : eqb j k ≡ false). rw (rowAt-setRow-other net (rows net) b k l r e j lj (eqb-false j k t)) (same j lj))
           (cases (eqb j k));
     }
 
-pub shape-put : (net : List ℕ) (k : ℕ) (r : List ℕ) → shape net ≡ true → k < rows net → length r ≡ rowBytes → Kept (rowAt net k) r
+pub shape-put : (net : List ℕ) (k : ℕ) (r : List ℕ) → shape net ≡ true → k < rows net → SameSize (rowAt net k) r → Kept (rowAt net k) r
     → shape (setRow net k r) ≡ true
 shape-put net k r s l e q = shape-became net _ s (became-put net k r s l e q (λ j b. kept-same (rowAt net j) (shape-row net s j b)))
 
 -- another row k, with another ID or on line otherwise: no other on-line row has its ID, and the holder stays on line
-pub shape-change : (net : List ℕ) (k : ℕ) (r : List ℕ) → shape net ≡ true → k < rows net → length r ≡ rowBytes → wellFormed r ≡ true
+pub shape-change : (net : List ℕ) (k : ℕ) (r : List ℕ) → shape net ≡ true → k < rows net → SameSize (rowAt net k) r → wellFormed r ≡ true
     → (onLine (regsOf r) ≡ true → (j : ℕ) → j < rows net → (j ≡ k → ⊥) → isNode net (regsOf r .id) j ≡ false)
     → ((phase net ≡ LOST → ⊥) → holder net ≡ k → onLine (regsOf r) ≡ true) → shape (setRow net k r) ≡ true
 unfolding onLineAt
 shape-change net k r s l e w d a =
-    let b = shape-within net s k l in
-    let same = setRow-header net k r b e in
+    let b = shape-room net s in
+    let f = setRow-frame net (rows net) b k l r e in
+    let same : (x : ℕ) → x < headerBytes → getD (setRow net k r) x 0 ≡ getD net x 0 = frame-byte f in
     let n : rows (setRow net k r) ≡ rows net = same 3 (lit< tt) in
     let ph : phase (setRow net k r) ≡ phase net = same 4 (lit< tt) in
     let ho : holder (setRow net k r) ≡ holder net = same 5 (lit< tt) in
-    let here : rowAt (setRow net k r) k ≡ r = rowAt-setRow net k r b e in
+    let here : rowAt (setRow net k r) k ≡ r = rowAt-setRow net (rows net) b k l r e in
     let there : (j : ℕ) → j < rows net → eqb j k ≡ false → rowAt (setRow net k r) j ≡ rowAt net j
-    = λ j lj t. rowAt-setRow-other net k r b e j (eqb-false j k t) (shape-within net s j lj) in
+    = λ j lj t. rowAt-setRow-other net (rows net) b k l r e j lj (eqb-false j k t) in
     let alone : (j : ℕ) → j < rows net → eqb j k ≡ false → onLineAt (setRow net k r) k ≡ true → onLineAt (setRow net k r) j ≡ true
     → regsAt (setRow net k r) j .id ≡ regsAt (setRow net k r) k .id → ⊥
     = λ j lj t p q i. clash (node-of net j (regsOf r .id) (rw (there j lj t) at q) (rw (there j lj t, here) at i)) (d (rw here at p) j lj (eqb-false j k t)) in
     shape-of (setRow net k r)
-    (header-kept net (setRow net k r) (shape-header net s) (length-setRow net k r b e) (λ x u v z. same x u) (omega (arith, shape-phase net s)))
+    (header-kept net (setRow net k r) (shape-header net s) (f .size) (f .starts (rows net) (omega arith)) (λ x u v z. same x u) (omega (arith, shape-phase net s)))
     (λ j m. let lj : j < rows net = omega arith in
     ⊎-elim (λ (t : eqb j k ≡ true). rw (eqb-true j k t, here) w) (λ (t : eqb j k ≡ false). rw (there j lj t) (shape-row net s j lj)) (cases (eqb j k)))
     (λ i j mi mj p q x. let li : i < rows net = omega arith in
@@ -108,14 +121,14 @@ shape-change net k r s l e w d a =
 pub shape-turned : (net : List ℕ) (p h : ℕ) → shape net ≡ true → p < 3 → (p ≡ LOST → h ≡ 0) → ((p ≡ LOST → ⊥) → OnLineRow net h)
     → shape (turned net p h) ≡ true
 shape-turned net p h s l a b =
-    let w : headerBytes ≤ length net = omega (arith, shape-length net s) in
+    let w = shape-least net s in
     let ph = phase-turned net p h w in
     let ho = holder-turned net p h w in
     let n = rows-turned net p h in
     let same : (k : ℕ) → onLineAt (turned net p h) k ≡ onLineAt net k = λ k. online-same net (turned net p h) k (rowAt-turned net p h k) in
     let row = rowAt-turned net p h in
     shape-of (turned net p h)
-    (header-kept net (turned net p h) (shape-header net s) (length-turned net p h) (λ x q u v. turned-other net p h x u v) (omega arith))
+    (header-kept net (turned net p h) (shape-header net s) (length-turned net p h) (start-turned net p h (rows net)) (λ x q u v. turned-other net p h x u v) (omega arith))
     (λ k q. ap wellFormed (row k) ∙ shape-row net s k (omega arith))
     (λ j k bj bk x o i. shape-ids net s j k (omega arith) (omega arith) (sym (same j) ∙ x) (sym (same k) ∙ o)
     (sym (ap (λ (r : List ℕ). regsOf r .id) (row j)) ∙ i ∙ ap (λ (r : List ℕ). regsOf r .id) (row k)))

@@ -5,13 +5,13 @@ use mathlib.Core.Bool.{true, false}
 use mathlib.Core.List.{List}
 use Prim.Native.Nat.{ℕ}
 use native.Mathlib.Omega.{arith}
-use lib.ListN.{length}
 use Rattle.registers.specs.declared.regs.Regs.{Regs}
-use Rattle.card.specs.Row.{rowBytes, regsOf, putRegs, wellFormed}
+use Rattle.card.specs.Row.{Whole, regsOf, putRegs, wellFormed}
 use Rattle.registers.specs.Fit.{onLine}
 use Rattle.registers.specs.Registers.{pointer, afterWrite, hardwareReset}
 use Rattle.card.specs.Access.{pointed, rowAfterRead, ramWritten, rowAfterWrite, rowAfterReset}
 use Rattle.registers.specs.Events.{burst}
+use Rattle.card.proofs.Rows.Sizes.{whole-registers}
 use Rattle.card.proofs.Rows.Bytes.{regs-put, well-fit}
 use Rattle.registers.proofs.Values.Fits.{fit-rules}
 use Rattle.registers.proofs.Values.FitEvents.{fit-burst}
@@ -22,11 +22,11 @@ use Rattle.card.proofs.Rows.Touched.{same-row}
 use Rattle.table.specs.Network.{onRegs}
 use Rattle.table.proofs.Shaped.Kept.{Kept}
 
-module _ (r : List ℕ) (l : length r ≡ rowBytes) where
+module _ (r : List ℕ) (l : Whole r) where
   -- other registers of the same card
   kept-put : (h : Regs) → wellFormed (putRegs r h) ≡ true → card.SameCard (regsOf r) h → Kept r (putRegs r h)
   kept-put h w k =
-      let e = regs-put r h (omega arith) in record {
+      let e = regs-put r h (whole-registers r l) in record {
         well = w;
         id = ap (λ (g : Regs). g .id) e ∙ k .id;
         online = ap onLine e ∙ card.on-line-same (regsOf r) h (k .id) (k .configuration);
@@ -42,10 +42,10 @@ module _ (r : List ℕ) (l : length r ≡ rowBytes) where
       record { well = well-read r l w k; id = c .id; online = card.on-line-same (regsOf r) (regsOf (rowAfterRead r k)) (c .id) (c .configuration) }
 
   pub reset-off : onLine (regsOf (rowAfterReset r)) ≡ false
-  reset-off = ap onLine (regs-put r hardwareReset (omega arith)) ∙ card.reset-off
+  reset-off = ap onLine (regs-put r hardwareReset (whole-registers r l)) ∙ card.reset-off
 
   pub regs-write : (k v : ℕ) → regsOf (rowAfterWrite r k v) ≡ afterWrite (regsOf r) k v
   regs-write k v =
       let m = ramWritten r k (pointed r) v in
       ap regsOf (sym (write-done r k (regsOf r) refl (pointer (regsOf r)) refl v m refl (afterWrite (regsOf r) k v) refl _ refl))
-      ∙ regs-put m (afterWrite (regsOf r) k v) (omega (arith, length-ram r k (pointed r) v))
+      ∙ regs-put m (afterWrite (regsOf r) k v) (omega (arith, whole-registers r l, length-ram r k (pointed r) v))

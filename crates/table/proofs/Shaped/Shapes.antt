@@ -4,17 +4,19 @@ use mathlib.Core.Path.{_≡_, sym}
 use mathlib.Core.Bool.{true, false, _&&_}
 use mathlib.Core.List.{List}
 use mathlib.Core.Logic.{⊎-elim}
-use Prim.Native.Nat.{ℕ, _+_, _≤_, _<_}
+use Prim.Native.Nat.{ℕ, suc, _≤_, _<_}
 use native.Mathlib.Omega.{arith}
 use lib.Dec.{eqb, leb, ltb}
 use lib.ListN.{length}
 use borrow.Author.Tests.{eqb-true, eqb-false, eq-eqb, ne-eqb, ltb-true, ltb-false, lt-ltb, le-leb, not-true}
-use Rattle.card.specs.Row.{rowBytes, wellFormed}
+use Rattle.card.specs.Row.{Whole, wellFormed}
 use Rattle.bits.proofs.Words.Bools.{cases, and-left, and-right, and-five}
 use Rattle.table.specs.Folds.{some}
-use Rattle.table.specs.Network.{headerBytes, rowLimit, rows, phase, holder, LOST, rowStart, rowAt, regsAt, onLineAt, isNode, headerFits, rowsFit, idsDiffer, holderFits, shape}
+use Rattle.table.specs.Rows.{headerBytes, rowStart, rowAt}
+use Rattle.table.specs.Network.{rowLimit, rows, phase, holder, LOST, regsAt, onLineAt, isNode, headerFits, rowsFit, idsDiffer, holderFits, shape}
 use Rattle.table.proofs.Folds.{clash, every-at, every-of, some-fails, some-not}
-use Rattle.table.proofs.Rows.Networks.{length-rowAt}
+use Rattle.table.proofs.Rows.Starts.{start-header}
+use Rattle.table.proofs.Rows.WithRows.{row-within, row-whole}
 use Rattle.table.proofs.Rows.Headers.{header-rows, header-phase, header-length}
 use Rattle.table.proofs.Online.Nodes.{node-of, free}
 
@@ -78,8 +80,15 @@ module _ (net : List ℕ) (s : shape net ≡ true) where
   pub shape-header : headerFits net ≡ true
   shape-header = tests .0
 
-  pub shape-length : length net ≡ rowStart (rows net)
+  pub shape-length : length net ≡ rowStart net (rows net)
   shape-length = header-length net shape-header
+
+  -- the rows and the header lie in the network
+  pub shape-room : rowStart net (rows net) ≤ length net
+  shape-room = omega (arith, shape-length)
+
+  pub shape-least : headerBytes ≤ length net
+  shape-least = start-header net (rows net) shape-room
 
   pub shape-rows : (0 < rows net) × (rows net ≤ rowLimit)
   shape-rows = header-rows net shape-header
@@ -87,9 +96,8 @@ module _ (net : List ℕ) (s : shape net ≡ true) where
   pub shape-phase : phase net < 3
   shape-phase = header-phase net shape-header
 
-  -- a row's part lies in the network
-  pub shape-within : (k : ℕ) → k < rows net → rowStart k + rowBytes ≤ length net
-  shape-within k l = omega (arith, shape-length)
+  pub shape-within : (k : ℕ) → k < rows net → rowStart net (suc k) ≤ length net
+  shape-within = row-within net (rows net) shape-room
 
   pub shape-fits : rowsFit net (rows net) ≡ true
   shape-fits = tests .1
@@ -97,8 +105,8 @@ module _ (net : List ℕ) (s : shape net ≡ true) where
   pub shape-row : (k : ℕ) → k < rows net → wellFormed (rowAt net k) ≡ true
   shape-row k l = fits-row net (rows net) shape-fits k l
 
-  pub shape-row-length : (k : ℕ) → k < rows net → length (rowAt net k) ≡ rowBytes
-  shape-row-length k l = length-rowAt net k (shape-within k l)
+  pub shape-row-whole : (k : ℕ) → k < rows net → Whole (rowAt net k)
+  shape-row-whole = row-whole net (rows net) shape-room
 
   pub shape-ids : Differ net (rows net)
   shape-ids = ids-differ net (rows net) (tests .2)
@@ -118,5 +126,5 @@ pub shape-of : (net : List ℕ) → headerFits net ≡ true → ((k : ℕ) → k
     → (phase net ≡ LOST → holder net ≡ 0) → ((phase net ≡ LOST → ⊥) → OnLineRow net (holder net)) → shape net ≡ true
 unfolding shape rowsFit
 shape-of net h w d a b =
-    let l = header-length net h in
-    rw (le-leb headerBytes (length net) (omega arith), h, every-of (λ (k : ℕ). wellFormed (rowAt net k)) (rows net) w, ids-of net (rows net) d, holder-of net a b)
+    let l : headerBytes ≤ length net = start-header net (rows net) (omega (arith, header-length net h)) in
+    rw (le-leb headerBytes (length net) l, h, every-of (λ (k : ℕ). wellFormed (rowAt net k)) (rows net) w, ids-of net (rows net) d, holder-of net a b)

@@ -1,23 +1,29 @@
 -- `card::packets::packet_at` meets its contract: the page stays within the row. Assumes nothing.
 use borrow.Author.Needs.{needs}
-use mathlib.Core.Path.{refl}
+use mathlib.Core.Path.{refl, ap}
+use Prim.Native.Nat.{_+_, _≤_}
 use native.Mathlib.Omega.{arith}
+use lib.ListN.{length}
+use Rattle.card.specs.declared.packets.Page.{Page}
 use Rattle.card.proofs.Pages.Carried.{read-out}
 use Rattle.card.proofs.Pages.Sizes.{page-fits, page-most}
 use Rattle.card.proofs.packets.packet_at.Statement.{statement}
 use Rattle.card.proofs.packets.packet_at.Tie as tie
 
+-- the page ends within the row
+within : (c : tie.After-page-of) → c .page-of .result .at + c .before .page-bytes .result ≤ length (c .before .before .before .before .args .row .now)
+within c =
+    let a = c .before .before in
+    let s = a .before .before in
+    rw (c .page-of .ensures .0, c .before .page-bytes .ensures) (page-fits (s .args .row .now) (s .args .page) (s .pre .0) (s .pre .1) (a .page-shape .result) (a .page-shape .ensures))
+
 add-copy : tie.Need-add-copy
 add-copy c =
-    let a = c .before .before in
-    let s = a .before .before .args in
-    omega (arith, page-fits (s .row .now) (s .page) (omega arith) (a .page-shape .result) (a .page-shape .ensures))
+    omega (arith, within c)
 
 part-copy-end : tie.Need-part-copy-end
 part-copy-end c =
-    let a = c .before .before in
-    let s = a .before .before .args in
-    omega (arith, page-fits (s .row .now) (s .page) (omega arith) (a .page-shape .result) (a .page-shape .ensures))
+    omega (arith, within c)
 
 part-bytes-end : tie.Need-part-bytes-end
 part-bytes-end c = omega (arith, page-most (c .before .before .before .page-shape .result))
@@ -25,8 +31,8 @@ part-bytes-end c = omega (arith, page-most (c .before .before .before .page-shap
 returns : tie.Need-returns
 returns c =
     let a = c .before .before .before .before .before .before in
-    let s = a .before .before .args in
-    read-out (s .row .now) (s .page) (omega arith) (omega arith) (a .page-shape .result) (a .page-shape .ensures) (c .before .before .before .before .page-at .result) (c .before .before .before .before .before .page-bytes .result) _ _ (c .before .before .before .before .page-at .ensures) (c .before .before .before .before .before .page-bytes .ensures) refl (c .before .copy .ensures .1)
+    let s = a .before .before in
+    read-out (s .args .row .now) (s .args .page) (s .pre .1) (s .pre .0) (a .page-shape .result) (a .page-shape .ensures) (c .before .before .before .before .page-of .result .at) (c .before .before .before .before .before .page-bytes .result) _ _ (ap (λ (q : Page). q .at) (c .before .before .before .before .page-of .ensures .0)) (c .before .before .before .before .before .page-bytes .ensures) refl (c .before .copy .ensures .1)
 
 pub packet-at-spec : {M : Type 1} → statement M
 packet-at-spec =

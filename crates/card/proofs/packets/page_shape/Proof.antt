@@ -6,11 +6,9 @@ use Rattle.card.proofs.packets.page_shape.Tie as tie
 
 returns : tie.Need-returns
 unfolding pageShape
-returns c =
-    let b = c .before .before .before .before in
-    simp (c .shape-of .ensures, b .load .ensures, b .before .page-at .ensures)
+returns c = simp (c .shape-of .ensures, c .before .before .before .before .before .page-of .ensures .0)
 
 pub page-shape-spec : {M : Type 1} → statement M
 page-shape-spec =
     tie.close
-    (tie.spec (λ c κs. search needs) (λ c κs. search needs) (λ c. search needs) (λ c. search needs) (λ c. search needs) (λ c. search needs) (λ c κs. search needs) returns)
+    (tie.spec (λ c κs. search needs) (λ c. search needs) (λ c. search needs) (λ c. search needs) (λ c. search needs) (λ c κs. search needs) returns)

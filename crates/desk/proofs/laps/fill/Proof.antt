@@ -51,6 +51,7 @@ use denote.Triple.Spec.{Meets, tripleOf}
 use denote.Triple.Table.{entered}
 use denote.Triple.Walked.{says, needs, Stays, stay-slice, stay-dropped, walkOf, goes-slice, goes-dropped, Walks, ends-at, walked, walk-meets}
 use denote.Exit.{yes}
+use Rattle.table.specs.Network.{rowLimit}
 use Rattle.desk.specs.declared.laps.Taker.{Taker}
 use Rattle.desk.proofs.Lapping.WalkSteps.{var, part, sets, tests, ends}
 use Rattle.desk.proofs.Lapping.TakerRows.{R, array, valsOf, machOf, typed, list-typed, list-tells, apart, again as room-again, taken}
@@ -86,7 +87,7 @@ slice = sliceTy (tyRef (named 0) mut (pointee (R .written)))
 -- ---- what becomes of the parameters: the slice is kept, list and n are dropped
 abbrev stayed : Stays (f.ended .signature .params) (f.ended .kept)
 stayed =
-    (stay-slice (0 ∷ []) tt (plain (λ _. R)), (stay-dropped (arrayOf (plain (λ _. R)) 60) yes, (stay-dropped (plain (λ _. usize)) yes, tt)))
+    (stay-slice (0 ∷ []) tt (plain (λ _. R)), (stay-dropped (arrayOf (plain (λ _. R)) rowLimit) yes, (stay-dropped (plain (λ _. usize)) yes, tt)))
 
 module _ {M : Type 1} (𝓤 : URA M) (H : Heap 𝓤) (A : Atoms 𝓤) (W : Given 𝓤 H A) (at-mem : Memory → SProp 𝓤) (run : Routine → Fun 𝓤)
     (κ : Lft) (q : Share) (b o : ℕ) (γ : GName) (ys list : List Taker) (n : ℕ) where
@@ -139,13 +140,13 @@ module _ {M : Type 1} (𝓤 : URA M) (H : Heap 𝓤) (A : Atoms 𝓤) (W : Given
   Nearer-wf : WellFounded Nearer
   Nearer-wf = InvImage·wf (λ (i : Upto). n - i .0) (Nat·lt-wfRel .wf)
 
-  module _ (𝓣 : Tables 𝓤 H) (room : Room R (length ys)) (is : Is (Array R 60) list (machOf list ∷ [])) (n-fits : n < 2 ^ 64) (few : n ≤ 60)
+  module _ (𝓣 : Tables 𝓤 H) (room : Room R (length ys)) (is : Is (Array R rowLimit) list (machOf list ∷ [])) (n-fits : n < 2 ^ 64) (few : n ≤ rowLimit)
       (within : n ≤ length ys) where
-    sixty : length list ≡ 60
-    sixty = is .1 .0 .1
+    sized : length list ≡ rowLimit
+    sized = is .1 .0 .1
 
     fit : (i : ℕ) → i ≤ n → length (zs i) ≡ length ys
-    fit i l = upTo-length list ys i (omega (arith, sixty)) (omega arith)
+    fit i l = upTo-length list ys i (omega (arith, sized)) (omega arith)
 
     module _ (l₀ l₁ l₂ l₃ l₄ l₅ l₆ l₇ l₈ l₉ l₁₀ l₁₁ l₁₂ : ℕ) where
       abbrev En : Env 𝓤 H
@@ -207,7 +208,7 @@ module _ {M : Type 1} (𝓤 : URA M) (H : Heap 𝓤) (A : Atoms 𝓤) (W : Given
           (λ over. exec ! (𝓣 .C) (𝓣 .Λ) En parts.t-4 (atRet En Post) $ sets ! 12 (of-opd ! (unit-lit !)) refl (tt, tt) $
           rewrite ! 0 (λ (k : ℕ). ‵ (row R fullShare (zs k) b o)) (le-antisymm (i .1) (nltb→le (i .0) n over)) refl $
           move ! (0 ∷ 14 ∷ 15 ∷ 16 ∷ []) $ closes-slice ! tt R ys (zs n) (fit n (omega arith)) b o $
-          move ! (3 ∷ []) $ use1 W (‵ (froom array l₄ 0)) (room-again 𝓤 H A W list l₄ sixty) $
+          move ! (3 ∷ []) $ use1 W (‵ (froom array l₄ 0)) (room-again 𝓤 H A W list l₄ sized) $
           -- [room for _4; obs; the borrow; the token; _5; _6; room for _7 … _12; _1; _3; _0; room for _2; and that each local dies]
           returns ! (look ! 14 refl) $
           move ! (14 ∷ 16 ∷ 12 ∷ 17 ∷ 15 ∷ 18 ∷ 13 ∷ 19 ∷ 0 ∷ 20 ∷ 4 ∷ 21 ∷ 5 ∷ 22 ∷ 6 ∷ 23 ∷ 7 ∷ 24 ∷ 8 ∷ 25 ∷ 9 ∷ 26 ∷ 10 ∷ 27 ∷ 11 ∷ 28 ∷ []) $
@@ -231,7 +232,7 @@ module _ {M : Type 1} (𝓤 : URA M) (H : Heap 𝓤) (A : Atoms 𝓤) (W : Given
           next-fits less = let l = ltb→lt (i .0) n less in omega arith
 
           in-list : T (ltb (i .0) n) → i .0 < length list
-          in-list less = let l = ltb→lt (i .0) n less in omega (arith, sixty)
+          in-list less = let l = ltb→lt (i .0) n less in omega (arith, sized)
 
           in-ys : T (ltb (i .0) n) → i .0 < length ys
           in-ys less = let l = ltb→lt (i .0) n less in omega arith
@@ -242,7 +243,7 @@ module _ {M : Type 1} (𝓤 : URA M) (H : Heap 𝓤) (A : Atoms 𝓤) (W : Given
     -- the MIR, up to the loop
     walk : ent 𝓤 (onEntry 𝓤 H A f.signature (κ, tt) (q, tt) a vals) (WpFn 𝓤 H (𝓣 .C) (𝓣 .Λ) code.function (s ∷ machOf list ∷ vint w64 n ∷ []) Post)
     walk =
-        qed W ((‵ (flft κ q) ⊛ ‵ ftrue) ∷ ‵ (owns (MutSlice (named 0) κ R ∷ Array R 60 ∷ usize ∷ []) a vals) ∷ []) ∵
+        qed W ((‵ (flft κ q) ⊛ ‵ ftrue) ∷ ‵ (owns (MutSlice (named 0) κ R ∷ Array R rowLimit ∷ usize ∷ []) a vals) ∷ []) ∵
         enter ! (𝓣 .C) (𝓣 .Λ) code.function (s ∷ machOf list ∷ vint w64 n ∷ []) _ $
         alloc1 ! (λ l₀. alloc1 ! (λ l₁. alloc1 ! (λ l₂. alloc1 ! (λ l₃. alloc1 ! (λ l₄. alloc1 ! (λ l₅. alloc1 ! (λ l₆. alloc1 ! (λ l₇.
         alloc1 ! (λ l₈. alloc1 ! (λ l₉. alloc1 ! (λ l₁₀. alloc1 ! (λ l₁₁. alloc1 ! (λ l₁₂. alloc0 ! $ params1 ! $
@@ -268,7 +269,7 @@ module _ {M : Type 1} (𝓤 : URA M) (H : Heap 𝓤) (A : Atoms 𝓤) (W : Given
   walks = walked 𝓤 H A f.ended stayed (f.clauses 𝓤 H A at-mem run) (WpFn 𝓤 H (𝓣 .C) (𝓣 .Λ) code.function)
       (λ κs. (slice-vals, (array-vals valsOf, (uint-vals w64, tt))))
       (λ κs. (mut-slice-tells (named 0) (κs .0) R, (list-tells, (uint-tells w64, tt))))
-      (λ κs qs bounds a g are. needs 𝓤 ((a .1 .1 .0 ≤ 60) × (a .1 .1 .0 ≤ length (a .0 .now))) _
+      (λ κs qs bounds a g are. needs 𝓤 ((a .1 .1 .0 ≤ rowLimit) × (a .1 .1 .0 ≤ length (a .0 .now))) _
       (λ h. walk 𝓤 H A W at-mem run (κs .0) (qs .0) (a .0 .ptr .0) (a .0 .ptr .1) (a .0 .name) (a .0 .now) (a .1 .0) (a .1 .1 .0) 𝓣
       (are .0 .0 .1) (are .1 .0) (are .1 .1 .0 .1) (h .0) (h .1)))
 
@@ -276,7 +277,7 @@ module _ {M : Type 1} (𝓤 : URA M) (H : Heap 𝓤) (A : Atoms 𝓤) (W : Given
   meets = walk-meets 𝓤 H A f.ended stayed W (
     goes-slice 𝓤 H A W 1 0 tt (plain (λ _. R)),
     (
-      goes-dropped 𝓤 H A W 1 (arrayOf (plain (λ _. R)) 60) yes (λ κs x f. refl),
+      goes-dropped 𝓤 H A W 1 (arrayOf (plain (λ _. R)) rowLimit) yes (λ κs x f. refl),
       (goes-dropped 𝓤 H A W 1 (plain (λ _. usize)) yes (λ κs x f. refl), tt),
     ),
   )

@@ -40,6 +40,7 @@ use denote.Triple.Statement.{Contract, Triple}
 use denote.Triple.Call.{calls-at}
 use denote.Triple.Table.{entered, cited}
 use denote.Triple.Walked.{says, Stays, gave-slice, walkOf, goes-gave-slice, Walks, ends-at, walked, walk-meets}
+use Rattle.table.specs.Network.{rowLimit}
 use Rattle.desk.specs.Lap.{nodes, lapTakers, lapped, listAfterLap, Walks as Handed}
 use Rattle.desk.specs.declared.laps.Taker.{Taker}
 use Rattle.desk.specs.declared.laps.Walked.{Walked}
@@ -65,7 +66,7 @@ use Rattle.desk.proofs.laps.lap.Statement as stated
 use Rattle.desk.proofs.laps.lap.Code as code
 
 -- ---- the list at exit, from what `walk` and `fill` say
-stored : (net : List ℕ) (list ts ws : List Taker) (n : ℕ) → length list ≡ 60 → n ≤ 60 → take n list ≡ lapTakers net (length ts)
+stored : (net : List ℕ) (list ts ws : List Taker) (n : ℕ) → length list ≡ rowLimit → n ≤ rowLimit → take n list ≡ lapTakers net (length ts)
     → ws ≡ take n list ++ dropped n ts → ws ≡ listAfterLap net ts
 unfolding listAfterLap
 stored net list ts ws n l few e e′ =
@@ -159,24 +160,24 @@ module _ {M : Type 1} (𝓤 : URA M) (H : Heap 𝓤) (A : Atoms 𝓤) (W : Given
     abbrev to-fill : Fill 𝓤 H A at-mem run .Ghost
     to-fill = (((κ′, tt), (q′, tt), tt, (x′, (r .list, (r .n, tt))), (s′ ∷ [], (mach-list ∷ [], (vint w64 (r .n) ∷ [], tt)))), tt)
 
-    goes-fill : r .n < 2 ^ 64 → Is (Array R 60) (r .list) (mach-list ∷ []) → (r .n ≤ 60) × (r .n ≤ m)
+    goes-fill : r .n < 2 ^ 64 → Is (Array R rowLimit) (r .list) (mach-list ∷ []) → (r .n ≤ rowLimit) × (r .n ≤ m)
         → ent 𝓤 (⋆ 𝓤 H A (Token κ′ q′ ∷ Takers ∷ [])) (Fill 𝓤 H A at-mem run .pre to-fill)
     goes-fill fits is within =
         qed W (Token κ′ q′ ∷ Takers ∷ []) ∵ says ! within $ frame ! $ nothing ! $
         owned ! usize (Is usize) (uint-makes 𝓤 H A W w64) (r .n) _ (refl, fits) $ fjoin ! $
-        owned ! (Array R 60) (Is (Array R 60)) (array-makes 𝓤 H A W R (LL.makes T.the-type T′.the-plain 𝓤 H A) 60) (r .list) _ is $ fjoin ! $
+        owned ! (Array R rowLimit) (Is (Array R rowLimit)) (array-makes 𝓤 H A W R (LL.makes T.the-type T′.the-plain 𝓤 H A) rowLimit) (r .list) _ is $ fjoin ! $
         move ! (1 ∷ 0 ∷ []) $ fjoin ! $ done !
 
     -- ---- the exit, with the network's last bytes zs and the last entries ws
     abbrev Last : List ℕ → List Taker → List (Item 𝓤)
     Last zs ws = Token κ q ∷ Token κ′ q′ ∷ ‵ (finally u8 γ zs) ∷ ‵ (finally R γ′ ws) ∷ []
 
-    exits : (zs : List ℕ) (ws : List Taker) → Said r zs → Total r → Filled ws → length zs ≡ length ys → length ws ≡ m → length (r .list) ≡ 60
+    exits : (zs : List ℕ) (ws : List Taker) → Said r zs → Total r → Filled ws → length zs ≡ length ys → length ws ≡ m → length (r .list) ≡ rowLimit
         → Is D.the-row (r .lapped) (mach-lapped ∷ []) → ent 𝓤 (⋆ 𝓤 H A (Last zs ws)) (Post mach-lapped)
-    exits zs ws e t e′ l l′ sixty is =
+    exits zs ws e t e′ l l′ sized is =
         qed W (Last zs ws) ∵
         suffices ! _ (ends-at 𝓤 H A f.ended stayed (f.clauses 𝓤 H A at-mem run) W bound mach-lapped (r .lapped) (zs, (ws, tt)) (l, (l′, tt))) $
-        says2 ! (e .4, e .5, stored ys (r .list) ts ws (r .n) sixty (e .0) (e .2) e′) t $
+        says2 ! (e .4, e .5, stored ys (r .list) ts ws (r .n) sized (e .0) (e .2) e′) t $
         split ! $ move ! (0 ∷ 2 ∷ []) $ join ! $ frame ! $ move ! (2 ∷ 0 ∷ []) $ fjoin ! $ move ! (1 ∷ 0 ∷ []) $ fjoin ! $
         owned ! D.the-row (Is D.the-row) (LL.makes D.the-type D′.the-plain 𝓤 H A) (r .lapped) _ is $ move ! (1 ∷ 0 ∷ []) $ done !
 

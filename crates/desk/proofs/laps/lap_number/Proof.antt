@@ -1,9 +1,9 @@
 -- `desk::laps::lap_number` meets its contract. Assumes nothing.
 use mathlib.Core.Path.{sym, _∙_}
-use native.Mathlib.Omega.{arith}
 use borrow.Author.Needs.{needs}
 use borrow.Author.Tests.{not-false}
-use Rattle.table.proofs.Shaped.Shapes.{shape-length}
+use Rattle.table.proofs.Shaped.Shapes.{shape-least}
+use Rattle.table.proofs.Shaped.Bounds.{bounds}
 use Rattle.desk.proofs.Lapping.LapNumber.{no-shape, asked}
 use Rattle.desk.proofs.laps.lap_number.Statement.{statement}
 use Rattle.desk.proofs.laps.lap_number.Tie as tie
@@ -12,17 +12,17 @@ returns : tie.Need-returns
 returns c = no-shape _ _ _ (c .before .shape .ensures) (c .if1 .taken)
 
 rows-requires : tie.Need-rows-requires
-rows-requires c κs = omega (arith, shape-length _ (sym (c .before .shape .ensures) ∙ not-false _ (c .if1 .left)))
+rows-requires c κs = shape-least _ (sym (c .before .shape .ensures) ∙ not-false _ (c .if1 .left))
 
 online-requires : tie.Need-online-requires
 online-requires c κs =
     let i = c .before in
-    omega (arith, c .rows .ensures .0, shape-length _ (sym (i .before .shape .ensures) ∙ not-false _ (i .if1 .left)))
+    bounds _ (sym (i .before .shape .ensures) ∙ not-false _ (i .if1 .left)) .all _ (c .rows .ensures .0)
 
 phase-requires : tie.Need-phase-requires
 phase-requires c κs =
     let i = c .before .before in
-    omega (arith, shape-length _ (sym (i .before .shape .ensures) ∙ not-false _ (i .if1 .left)))
+    shape-least _ (sym (i .before .shape .ensures) ∙ not-false _ (i .if1 .left))
 
 returns-2 : tie.Need-returns-2
 returns-2 c =

@@ -1,16 +1,15 @@
 -- `line::step::lost` meets its contract. Assumes nothing.
-use mathlib.Core.Path.{refl}
-use Rattle.table.proofs.Shaped.Bounds.{bounds}
+use Rattle.table.proofs.Shaped.Bounds.{bounds, header-room}
 use Rattle.line.proofs.Turn.Turns.{node-byte, is-quiet, is-recovered}
 use borrow.Author.Needs.{needs}
 use Rattle.line.proofs.step.lost.Statement.{statement}
 use Rattle.line.proofs.step.lost.Tie as tie
 
 rows-requires : tie.Need-rows-requires
-rows-requires c κs = bounds _ (c .before .before .pre) _ refl .header
+rows-requires c κs = bounds _ (c .before .before .pre) .header
 
 top-id-requires : tie.Need-top-id-requires
-top-id-requires c κs = let n = c .before in bounds _ (n .before .before .before .pre) _ refl .all _ (n .rows .ensures .0)
+top-id-requires c κs = let n = c .before in bounds _ (n .before .before .before .pre) .all _ (n .rows .ensures .0)
 
 returns : tie.Need-returns
 returns c =
@@ -18,10 +17,10 @@ returns c =
     is-quiet (n .before .before .before .args .net .now) _ (n .rows .ensures .0) _ (c .before .top-id .ensures) (c .if1 .taken)
 
 node-of-requires : tie.Need-node-of-requires
-node-of-requires c κs = let n = c .before .before .before .before in bounds _ (n .before .before .before .pre) _ refl .all _ (n .rows .ensures .0)
+node-of-requires c κs = let n = c .before .before .before .before in bounds _ (n .before .before .before .pre) .all _ (n .rows .ensures .0)
 
 happen-requires : tie.Need-happen-requires
-happen-requires c κs = let n = c .before .before .before .before .before .before in bounds _ (n .before .before .before .pre) _ refl .all _ (n .rows .ensures .0)
+happen-requires c κs = let n = c .before .before .before .before .before .before in bounds _ (n .before .before .before .pre) .all _ (n .rows .ensures .0)
 
 cast-turn : tie.Need-cast-turn
 cast-turn c =
@@ -32,7 +31,7 @@ cast-turn c =
 turn-requires : tie.Need-turn-requires
 turn-requires c κs =
     let h = c .before .before .before in
-    bounds _ (h .before .before .before .before .before .before .before .before .before .before .pre) _ (h .happen .kept .0) .header
+    header-room _ (h .before .before .before .before .before .before .before .before .before .before .pre) _ (h .happen .kept .0)
 
 returns-2 : tie.Need-returns-2
 returns-2 c =

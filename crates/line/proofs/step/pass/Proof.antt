@@ -1,24 +1,27 @@
 -- `line::step::pass` meets its contract. Assumes nothing.
-use mathlib.Core.Path.{refl, _∙_}
+use mathlib.Core.Path.{_∙_}
 use native.Mathlib.Omega.{arith}
+use mathlib.Core.Bool.{true}
+use Rattle.line.specs.declared.passes.Event.the-variants.{Message}
 use Rattle.table.proofs.Shaped.Shapes.{shape-rows}
-use Rattle.table.proofs.Shaped.Bounds.{bounds}
+use Rattle.table.proofs.Shaped.Bounds.{bounds, header-room}
 use Rattle.line.proofs.Turn.Turns.{is-lost, is-passed, is-unanswered}
 use borrow.Author.Needs.{needs}
 use Rattle.line.proofs.step.pass.Statement.{statement}
 use Rattle.line.proofs.step.pass.Tie as tie
+use Rattle.line.proofs.Turn.Sends.{happened-bounds}
 
 rows-requires : tie.Need-rows-requires
-rows-requires c κs = bounds _ (c .before .before .pre .0) _ refl .header
+rows-requires c κs = bounds _ (c .before .before .pre .0) .header
 
 holder-requires : tie.Need-holder-requires
-holder-requires c κs = bounds _ (c .before .before .before .before .pre .0) _ refl .header
+holder-requires c κs = bounds _ (c .before .before .before .before .pre .0) .header
 
 happen-requires : tie.Need-happen-requires
-happen-requires c κs = let n = c .before .before .before .before in bounds _ (n .before .before .before .pre .0) _ refl .all _ (n .rows .ensures .0)
+happen-requires c κs = let n = c .before .before .before .before in bounds _ (n .before .before .before .pre .0) .all _ (n .rows .ensures .0)
 
 turn-requires : tie.Need-turn-requires
-turn-requires c κs = bounds _ (c .before .before .before .before .before .before .before .before .before .before .before .pre .0) _ (c .before .before .before .happen .kept .0) .header
+turn-requires c κs = header-room _ (c .before .before .before .before .before .before .before .before .before .before .before .pre .0) _ (c .before .before .before .happen .kept .0)
 
 returns : tie.Need-returns
 returns c =
@@ -30,22 +33,22 @@ returns c =
     is-lost (a .net .now) _ (n .rows .ensures .0) _ (a .fault) (i .before .holder .ensures .0) (i .if1 .taken) _ (h .happen .ensures) _ (u .turn .ensures)
 
 regs-at-requires : tie.Need-regs-at-requires
-regs-at-requires c κs = let a = c .before .before .before .before .before .before .before in bounds _ (a .pre .0) _ refl .row _ (omega (arith, (a .pre .1), (c .before .before .holder .ensures .0)))
+regs-at-requires c κs = let a = c .before .before .before .before .before .before .before in bounds _ (a .pre .0) .row _ (omega (arith, (a .pre .1), (c .before .before .holder .ensures .0)))
 
 node-of-requires : tie.Need-node-of-requires
-node-of-requires c κs = let n = c .before .before .before .before .before .before in bounds _ (n .before .before .before .pre .0) _ refl .all _ (n .rows .ensures .0)
+node-of-requires c κs = let n = c .before .before .before .before .before .before in bounds _ (n .before .before .before .pre .0) .all _ (n .rows .ensures .0)
 
 happen-requires-2 : tie.Need-happen-requires-2
-happen-requires-2 c κs = let n = c .before .before .before .before .before .before .before .before in bounds _ (n .before .before .before .pre .0) _ refl .all _ (n .rows .ensures .0)
+happen-requires-2 c κs = let n = c .before .before .before .before .before .before .before .before in bounds _ (n .before .before .before .pre .0) .all _ (n .rows .ensures .0)
 
 happen-requires-3 : tie.Need-happen-requires-3
-happen-requires-3 c κs = let n = c .before .before .before .before .before .before .before .before .before .before .before .before .before in bounds _ (n .before .before .before .pre .0) _ (c .before .before .before .before .happen2 .kept .0) .all _ (n .rows .ensures .0)
+happen-requires-3 c κs = let n = c .before .before .before .before .before .before .before .before .before .before .before .before .before in happened-bounds _ (n .before .before .before .pre .0) _ (n .rows .ensures .0) (Message (c .before .before .before .before .before .before .before .before .before .before .before .holder .result) true) _ (c .before .before .before .before .happen2 .ensures) .all _ (n .rows .ensures .0)
 
 cast-turn : tie.Need-cast-turn
 cast-turn c = let n = c .before .before .before .before .before .before .before .before .before .before .before .before .before .before .before .before .before in record { fits = omega (arith, n .rows .ensures .0, shape-rows _ (n .before .before .before .pre .0) .1, c .before .before .before .before .before .if2 .taken) }
 
 turn-requires-2 : tie.Need-turn-requires-2
-turn-requires-2 c κs = bounds _ (c .before .before .before .before .before .before .before .before .before .before .before .before .before .before .before .before .before .before .before .before .pre .0) _ (c .before .before .before .happen3 .kept .0 ∙ c .before .before .before .before .before .before .before .before .happen2 .kept .0) .header
+turn-requires-2 c κs = header-room _ (c .before .before .before .before .before .before .before .before .before .before .before .before .before .before .before .before .before .before .before .before .pre .0) _ (c .before .before .before .happen3 .kept .0 ∙ c .before .before .before .before .before .before .before .before .happen2 .kept .0)
 
 returns-2 : tie.Need-returns-2
 returns-2 c =
@@ -64,12 +67,12 @@ returns-2 c =
 regs-at-requires-2 : tie.Need-regs-at-requires-2
 regs-at-requires-2 c κs =
     let a = c .before .before .before .before .before .before .before .before .before .before .before .before .before .before .before .before in
-    bounds _ (a .pre .0) _ (c .before .before .before .before .happen2 .kept .0) .row _ (omega (arith, (a .pre .1), (c .before .before .before .before .before .before .before .before .before .before .before .holder .ensures .0)))
+    happened-bounds _ (a .pre .0) _ (c .before .before .before .before .before .before .before .before .before .before .before .before .before .rows .ensures .0) (Message (c .before .before .before .before .before .before .before .before .before .before .before .holder .result) true) _ (c .before .before .before .before .happen2 .ensures) .row _ (omega (arith, (a .pre .1), (c .before .before .before .before .before .before .before .before .before .before .before .holder .ensures .0)))
 
 put-regs-requires : tie.Need-put-regs-requires
 put-regs-requires c κs =
     let a = c .before .before .before .before .before .before .before .before .before .before .before .before .before .before .before .before .before .before .before in
-    bounds _ (a .pre .0) _ (c .before .before .before .before .before .before .before .happen2 .kept .0) .row _ (omega (arith, (a .pre .1), (c .before .before .before .before .before .before .before .before .before .before .before .before .before .before .holder .ensures .0)))
+    happened-bounds _ (a .pre .0) _ (c .before .before .before .before .before .before .before .before .before .before .before .before .before .before .before .before .rows .ensures .0) (Message (c .before .before .before .before .before .before .before .before .before .before .before .before .before .before .holder .result) true) _ (c .before .before .before .before .before .before .before .happen2 .ensures) .row _ (omega (arith, (a .pre .1), (c .before .before .before .before .before .before .before .before .before .before .before .before .before .before .holder .ensures .0)))
 
 returns-3 : tie.Need-returns-3
 returns-3 c =

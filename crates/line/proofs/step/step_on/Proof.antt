@@ -1,15 +1,15 @@
 -- `line::step::step_on` meets its contract. Assumes nothing.
-use mathlib.Core.Path.{refl, sym, _∙_}
+use mathlib.Core.Path.{sym, _∙_}
 use native.Mathlib.Omega.{arith}
 use Rattle.table.proofs.Shaped.Shapes.{shape-holder}
-use Rattle.table.proofs.Shaped.Bounds.{bounds}
+use Rattle.table.proofs.Shaped.Bounds.{bounds, header-room}
 use Rattle.line.proofs.Turn.Turns.{in-lost, in-pass, in-taken}
 use borrow.Author.Needs.{needs}
 use Rattle.line.proofs.step.step_on.Statement.{statement}
 use Rattle.line.proofs.step.step_on.Tie as tie
 
 phase-requires : tie.Need-phase-requires
-phase-requires c κs = bounds _ (c .before .before .pre) _ refl .header
+phase-requires c κs = bounds _ (c .before .before .pre) .header
 
 returns : tie.Need-returns
 returns c =
@@ -33,7 +33,7 @@ returns-2 c =
     in-pass (a .net .now) (a .fault) (λ z. j .before .if1 .left (e ∙ z)) (sym e ∙ j .if2 .taken) _ _ (p .pass .ensures)
 
 holder-requires : tie.Need-holder-requires
-holder-requires c κs = bounds _ (c .before .before .before .before .before .before .pre) _ refl .header
+holder-requires c κs = bounds _ (c .before .before .before .before .before .before .pre) .header
 
 taken-requires : tie.Need-taken-requires
 taken-requires c κs =
@@ -44,7 +44,7 @@ taken-requires c κs =
 turn-requires : tie.Need-turn-requires
 turn-requires c κs =
     let t = c .before .before .before in
-    bounds _ (t .before .before .before .before .before .before .before .before .before .pre) _ (t .taken .kept .0) .header
+    header-room _ (t .before .before .before .before .before .before .before .before .before .pre) _ (t .taken .kept .0)
 
 returns-3 : tie.Need-returns-3
 returns-3 c =

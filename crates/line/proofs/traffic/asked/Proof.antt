@@ -1,28 +1,32 @@
 -- `line::traffic::asked` meets its contract. Assumes nothing.
-use mathlib.Core.Path.{refl}
+use mathlib.Core.Bool.{false}
+use Rattle.line.specs.declared.passes.Event.the-variants.{Message}
 use Rattle.table.proofs.Shaped.Bounds.{bounds}
 use Rattle.line.proofs.Turn.Outcomes.{asked-is}
 use borrow.Author.Needs.{needs}
 use Rattle.line.proofs.traffic.asked.Statement.{statement}
 use Rattle.line.proofs.traffic.asked.Tie as tie
+use Rattle.line.proofs.Turn.Sends.{happened-bounds}
 
 rows-requires : tie.Need-rows-requires
-rows-requires c κs = bounds _ (c .before .before .pre .0) _ refl .header
+rows-requires c κs = bounds _ (c .before .before .pre .0) .header
 
 happen-requires : tie.Need-happen-requires
-happen-requires c κs = bounds _ (c .before .before .before .before .pre .0) _ refl .all _ (c .before .rows .ensures .0)
+happen-requires c κs = bounds _ (c .before .before .before .before .pre .0) .all _ (c .before .rows .ensures .0)
 
 regs-at-requires : tie.Need-regs-at-requires
 regs-at-requires c κs =
     let h = c .before .before .before in
-    let a = h .before .before .before .before .before in
-    bounds _ (a .pre .0) _ (h .happen .kept .0) .row _ (a .pre .1)
+    let n = h .before .before in
+    let a = n .before .before .before in
+    happened-bounds _ (a .pre .0) _ (n .rows .ensures .0) (Message (a .args .h) false) _ (h .happen .ensures) .row _ (a .pre .1)
 
 put-regs-requires : tie.Need-put-regs-requires
 put-regs-requires c κs =
     let h = c .before .before .before .before .before .before in
-    let a = h .before .before .before .before .before in
-    bounds _ (a .pre .0) _ (h .happen .kept .0) .row _ (a .pre .1)
+    let n = h .before .before in
+    let a = n .before .before .before in
+    happened-bounds _ (a .pre .0) _ (n .rows .ensures .0) (Message (a .args .h) false) _ (h .happen .ensures) .row _ (a .pre .1)
 
 returns : tie.Need-returns
 returns c =

@@ -1,5 +1,4 @@
 -- `line::traffic::attempt` meets its contract. Assumes nothing.
-use mathlib.Core.Path.{refl}
 use Rattle.table.proofs.Shaped.Shapes.{shape-within}
 use Rattle.table.proofs.Shaped.Bounds.{bounds}
 use Rattle.line.proofs.Turn.Tries.{tried-malformed, tried-broadcast, tried-enquiry}
@@ -43,12 +42,12 @@ returns-2 c =
     _ (d .before .row-at2 .ensures .0) _ (d .destination .ensures) (j .if2 .taken) _ _ (b .broadcast .ensures)
 
 rows-requires : tie.Need-rows-requires
-rows-requires c κs = bounds _ (c .before .before .before .before .before .before .before .before .before .before .before .pre .0) _ refl .header
+rows-requires c κs = bounds _ (c .before .before .before .before .before .before .before .before .before .before .before .pre .0) .header
 
 node-of-requires : tie.Need-node-of-requires
 node-of-requires c κs =
     let a = c .before .before .before .before .before .before .before .before .before .before .before .before in
-    bounds _ (a .pre .0) _ refl .all _ (c .rows .ensures .0)
+    bounds _ (a .pre .0) .all _ (c .rows .ensures .0)
 
 returns-3 : tie.Need-returns-3
 returns-3 c =

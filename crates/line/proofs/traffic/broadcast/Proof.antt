@@ -1,26 +1,29 @@
 -- `line::traffic::broadcast` meets its contract. Assumes nothing.
-use mathlib.Core.Path.{refl}
 use Rattle.registers.specs.Events.{sent}
 use Rattle.table.proofs.Shaped.Bounds.{bounds}
 use Rattle.line.proofs.Turn.Outcomes.{is-broadcast}
 use borrow.Author.Needs.{needs}
 use Rattle.line.proofs.traffic.broadcast.Statement.{statement}
 use Rattle.line.proofs.traffic.broadcast.Tie as tie
+use Rattle.line.proofs.Turn.Sends.{went-bounds}
+use native.Mathlib.Omega.{arith}
 
 rows-requires : tie.Need-rows-requires
-rows-requires c κs = bounds _ (c .before .before .pre .0) _ refl .header
+rows-requires c κs = bounds _ (c .before .before .pre .0) .header
 
 regs-at-requires : tie.Need-regs-at-requires
 regs-at-requires c κs =
     let s = c .before .before .before in
-    let a = s .before .before .before .before .before in
-    bounds _ (a .pre .0) _ (s .send .kept .0) .row _ (a .pre .1 .0)
+    let b = s .before .before .before .before in
+    let a = b .before in
+    went-bounds _ (a .pre .0) (λ i. omega (arith, b .slice-known .given i)) _ _ (a .pre .1 .0) (a .pre .1 .1) _ _ _ _ (s .send .ensures) .row _ (a .pre .1 .0)
 
 put-regs-requires : tie.Need-put-regs-requires
 put-regs-requires c κs =
     let s = c .before .before .before .before .before .before in
-    let a = s .before .before .before .before .before in
-    bounds _ (a .pre .0) _ (s .send .kept .0) .row _ (a .pre .1 .0)
+    let b = s .before .before .before .before in
+    let a = b .before in
+    went-bounds _ (a .pre .0) (λ i. omega (arith, b .slice-known .given i)) _ _ (a .pre .1 .0) (a .pre .1 .1) _ _ _ _ (s .send .ensures) .row _ (a .pre .1 .0)
 
 returns : tie.Need-returns
 returns c =

@@ -1,10 +1,11 @@
 -- `line::traffic::deliver` meets its contract. Assumes nothing.
 use Rattle.table.proofs.Shaped.Shapes.{shape-within}
-use Rattle.table.proofs.Shaped.Bounds.{bounds}
 use Rattle.line.proofs.Turn.Outcomes.{ack-is, delivered}
 use borrow.Author.Needs.{needs}
 use Rattle.line.proofs.traffic.deliver.Statement.{statement}
 use Rattle.line.proofs.traffic.deliver.Tie as tie
+use Rattle.line.proofs.Turn.Sends.{went-bounds}
+use native.Mathlib.Omega.{arith}
 
 row-at-requires : tie.Need-row-at-requires
 row-at-requires c κs = let a = c .before .before in shape-within _ (a .pre .0) _ (a .pre .1 .0)
@@ -15,14 +16,16 @@ regs-at-requires c κs = let a = c .before .before .before .before .before in sh
 regs-at-requires-2 : tie.Need-regs-at-requires-2
 regs-at-requires-2 c κs =
     let s = c .before .before .before in
-    let a = s .before .before .before .before .before .before .before .before .before in
-    bounds _ (a .pre .0) _ (s .send .kept .0) .row _ (a .pre .1 .0)
+    let b = s .before .before .before .before .before .before .before .before in
+    let a = b .before in
+    went-bounds _ (a .pre .0) (λ i. omega (arith, b .slice-known .given i)) _ _ (a .pre .1 .0) (a .pre .1 .1 .0) _ _ _ _ (s .send .ensures) .row _ (a .pre .1 .0)
 
 put-regs-requires : tie.Need-put-regs-requires
 put-regs-requires c κs =
     let s = c .before .before .before .before .before .before .before in
-    let a = s .before .before .before .before .before .before .before .before .before in
-    bounds _ (a .pre .0) _ (s .send .kept .0) .row _ (a .pre .1 .0)
+    let b = s .before .before .before .before .before .before .before .before in
+    let a = b .before in
+    went-bounds _ (a .pre .0) (λ i. omega (arith, b .slice-known .given i)) _ _ (a .pre .1 .0) (a .pre .1 .1 .0) _ _ _ _ (s .send .ensures) .row _ (a .pre .1 .0)
 
 returns : tie.Need-returns
 returns c =

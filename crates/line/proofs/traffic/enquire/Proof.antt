@@ -1,5 +1,4 @@
 -- `line::traffic::enquire` meets its contract. Assumes nothing.
-use mathlib.Core.Path.{refl}
 use native.Mathlib.Omega.{arith}
 use Rattle.table.proofs.Shaped.Bounds.{bounds}
 use Rattle.line.proofs.Turn.Outcomes.{no-answer, refused, answered-by}
@@ -8,7 +7,7 @@ use Rattle.line.proofs.traffic.enquire.Statement.{statement}
 use Rattle.line.proofs.traffic.enquire.Tie as tie
 
 rows-requires : tie.Need-rows-requires
-rows-requires c κs = bounds _ (c .before .before .pre .0) _ refl .header
+rows-requires c κs = bounds _ (c .before .before .pre .0) .header
 
 asked-requires : tie.Need-asked-requires
 asked-requires c κs = let a = c .before .before .before .before .before in (a .pre .0, a .pre .1 .0)
@@ -23,7 +22,7 @@ returns c =
 regs-at-requires : tie.Need-regs-at-requires
 regs-at-requires c κs =
     let n = c .before .before in
-    bounds _ (n .before .before .before .pre .0) _ refl .row _ (omega (arith, n .rows .ensures .0, c .before .if1 .left))
+    bounds _ (n .before .before .before .pre .0) .row _ (omega (arith, n .rows .ensures .0, c .before .if1 .left))
 
 deliver-requires : tie.Need-deliver-requires
 deliver-requires c κs =

@@ -12,6 +12,9 @@ returns c = placed-refused _ _ _ (c .before .place-number .ensures) _ (c .if1 .t
 row-at-requires : tie.Need-row-at-requires
 row-at-requires c κs = at-part _ _ _ (c .before .place-number .ensures) (c .if1 .left) .1
 
+data-number-requires : tie.Need-data-number-requires
+data-number-requires c κs = c .row-at .ensures .1 .0 .0
+
 returns-2 : tie.Need-returns-2
 unfolding netDataNumber
 returns-2 c =
@@ -21,4 +24,4 @@ returns-2 c =
 pub data-number-spec : {M : Type 1} → statement M
 data-number-spec =
     tie.close
-    (tie.spec (λ c κs. search needs) returns row-at-requires (λ c κs. search needs) returns-2)
+    (tie.spec (λ c κs. search needs) returns row-at-requires data-number-requires returns-2)

@@ -1,7 +1,7 @@
 -- `table::calls::fresh` meets its contract. Assumes nothing.
 use native.Mathlib.Omega.{arith}
 use borrow.Author.Needs.{needs}
-use Rattle.table.proofs.Access.Fresh.{fresh-refused, fresh-fits, fresh-done}
+use Rattle.table.proofs.Access.Fresh.{exact-least, fresh-refused, fresh-fits, fresh-done}
 use Rattle.table.proofs.calls.fresh.Statement.{statement}
 use Rattle.table.proofs.calls.fresh.Tie as tie
 
@@ -10,8 +10,9 @@ returns c = fresh-refused _ _ _ (c .before .fresh-number .ensures) (c .if1 .take
 
 write-header-requires : tie.Need-write-header-requires
 write-header-requires c κs =
-    let h = fresh-fits _ _ _ (c .before .before .fresh-number .ensures) (c .before .if1 .left) in
-    (omega arith, omega arith)
+    let i = c .before in
+    let h = fresh-fits _ _ _ (i .before .fresh-number .ensures) (i .if1 .left) in
+    (omega (arith, h .1, exact-least (i .before .before .before .before .args .n)), omega arith)
 
 create-rows-requires : tie.Need-create-rows-requires
 create-rows-requires c κs =

@@ -8,16 +8,11 @@ use Rattle.table.proofs.calls.fresh_number.Tie as tie
 returns : tie.Need-returns
 returns c = fresh-value _ _ (c .if1 .taken)
 
-mul-refuse : tie.Need-mul-refuse
-mul-refuse c = omega (arith, fresh-small (c .before .before .args .n) (c .if1 .left))
-
-add-refuse : tie.Need-add-refuse
-add-refuse c = omega (arith, fresh-small (c .before .before .args .n) (c .if1 .left))
+exact-length-requires : tie.Need-exact-length-requires
+exact-length-requires c κs = omega (arith, fresh-small (c .before .before .args .n) (c .if1 .left))
 
 returns-2 : tie.Need-returns-2
-returns-2 c = fresh-asked _ _ (c .before .if1 .left) _ (c .refuse .ensures)
+returns-2 c = fresh-asked _ _ (c .before .before .if1 .left) _ (simp (c .before .exact-length .ensures) at (c .refuse .ensures))
 
 pub fresh-number-spec : {M : Type 1} → statement M
-fresh-number-spec =
-    tie.close
-    (tie.spec returns mul-refuse add-refuse (λ c κs. search needs) returns-2)
+fresh-number-spec = tie.close (tie.spec returns exact-length-requires (λ c κs. search needs) returns-2)

@@ -14,6 +14,9 @@ returns c =
 row-at-requires : tie.Need-row-at-requires
 row-at-requires c κs = at-part _ _ _ (c .before .place-number .ensures) (c .if1 .left) .1
 
+page-data-requires : tie.Need-page-data-requires
+page-data-requires c κs = c .row-at .ensures .1 .0 .0
+
 returns-2 : tie.Need-returns-2
 returns-2 c =
     let i = c .before .before in
@@ -27,4 +30,4 @@ pub page-data-spec : {M : Type 1} → statement M
 page-data-spec =
     tie.close
     (tie.spec (λ c κs. search needs) (λ c. search needs) (λ c. search needs) (λ c. search needs) returns
-    row-at-requires (λ c κs. search needs) returns-2)
+    row-at-requires page-data-requires returns-2)

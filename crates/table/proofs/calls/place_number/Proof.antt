@@ -1,9 +1,8 @@
 -- `table::calls::place_number` meets its contract. Assumes nothing.
 use mathlib.Core.Path.{sym, _∙_}
-use native.Mathlib.Omega.{arith}
 use borrow.Author.Needs.{needs}
 use borrow.Author.Tests.{not-false}
-use Rattle.table.proofs.Shaped.Shapes.{shape-length}
+use Rattle.table.proofs.Shaped.Shapes.{shape-least}
 use Rattle.table.proofs.Access.Placed.{place-refused, place-asked}
 use Rattle.table.proofs.calls.place_number.Statement.{statement}
 use Rattle.table.proofs.calls.place_number.Tie as tie
@@ -12,7 +11,7 @@ returns : tie.Need-returns
 returns c = place-refused _ _ _ (c .before .shape .ensures) (c .if1 .taken)
 
 rows-requires : tie.Need-rows-requires
-rows-requires c κs = omega (arith, shape-length _ (sym (c .before .shape .ensures) ∙ not-false _ (c .if1 .left)))
+rows-requires c κs = shape-least _ (sym (c .before .shape .ensures) ∙ not-false _ (c .if1 .left))
 
 returns-2 : tie.Need-returns-2
 returns-2 c =

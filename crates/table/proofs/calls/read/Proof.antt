@@ -1,6 +1,6 @@
 -- `table::calls::read` meets its contract. Assumes nothing.
-use native.Mathlib.Omega.{arith}
 use borrow.Author.Needs.{needs}
+use Rattle.table.proofs.Rows.Walks.{row-sized, walked-room, walked-lies}
 use Rattle.table.proofs.Access.Placed.{read-part, read-refused, read-done}
 use Rattle.table.proofs.calls.read.Statement.{statement}
 use Rattle.table.proofs.calls.read.Tie as tie
@@ -8,26 +8,26 @@ use Rattle.table.proofs.calls.read.Tie as tie
 returns : tie.Need-returns
 returns c = read-refused _ _ _ _ (c .before .read-number .ensures) (c .if1 .taken)
 
-mul-a : tie.Need-mul-a
-mul-a c = omega (arith, read-part _ _ _ _ (c .before .read-number .ensures) (c .if1 .left))
+row-end-requires : tie.Need-row-end-requires
+row-end-requires c κs =
+    let i = c .before .before .before in
+    walked-room _ _ _ (c .before .row-start .ensures) (read-part _ _ _ _ (i .before .read-number .ensures) (i .if1 .left) .1)
 
-add-a : tie.Need-add-a
-add-a c = omega (arith, read-part _ _ _ _ (c .before .read-number .ensures) (c .if1 .left))
-
-add-read : tie.Need-add-read
-add-read c = omega (arith, read-part _ _ _ _ (c .before .read-number .ensures) (c .if1 .left))
-
-part-read-end : tie.Need-part-read-end
-part-read-end c = omega (arith, read-part _ _ _ _ (c .before .read-number .ensures) (c .if1 .left))
+read-requires : tie.Need-read-requires
+read-requires c κs = row-sized _ _ _ (c .before .row-end .ensures) .0
 
 returns-2 : tie.Need-returns-2
 returns-2 c =
     let r = c .before .before in
-    let i = r .before .before in
-    read-done _ _ _ _ (i .before .read-number .ensures) (i .if1 .left) _ _ (r .read .ensures .0) (r .read .ensures .1)
+    let e = r .before .before in
+    let a = e .before .before in
+    let i = a .before .before in
+    let n = i .before .read-number .ensures in
+    read-done _ _ _ _ n (i .if1 .left) _ _
+    (walked-lies _ _ _ (a .row-start .ensures) (read-part _ _ _ _ n (i .if1 .left) .1) _ (e .row-end .ensures)) _ _ (r .read .ensures .0) (r .read .ensures .1)
 
 pub read-spec : {M : Type 1} → statement M
 read-spec =
     tie.close
-    (tie.spec (λ c κs. search needs) (λ c. search needs) returns mul-a add-a add-read (λ c. search needs)
-    (λ c. search needs) part-read-end (λ c κs. search needs) (λ c. search needs) returns-2)
+    (tie.spec (λ c κs. search needs) (λ c. search needs) returns (λ c κs. search needs) row-end-requires (λ c. search needs)
+    (λ c. search needs) (λ c. search needs) read-requires (λ c. search needs) returns-2)

@@ -1,6 +1,9 @@
 -- `table::calls::reset` meets its contract. Assumes nothing.
-use native.Mathlib.Omega.{arith}
 use borrow.Author.Needs.{needs}
+use Rattle.registers.specs.Registers.{hardwareReset}
+use Rattle.card.specs.Access.{rowAfterReset}
+use Rattle.card.proofs.Rows.Bytes.{size-put}
+use Rattle.table.proofs.Rows.Walks.{row-sized, row-stays, walked-room, walked-lies}
 use Rattle.table.proofs.Online.Nodes.{online-is}
 use Rattle.table.proofs.Access.Placed.{at-part}
 use Rattle.table.proofs.Access.Settled.{reset-refused, reset-done}
@@ -13,36 +16,37 @@ returns c = reset-refused _ _ _ (c .before .place-number .ensures) (c .if1 .take
 regs-at-requires : tie.Need-regs-at-requires
 regs-at-requires c κs = at-part _ _ _ (c .before .before .place-number .ensures) (c .before .if1 .left) .1
 
-mul-a : tie.Need-mul-a
-mul-a c = let i = c .before .before .before in omega (arith, at-part _ _ _ (i .before .place-number .ensures) (i .if1 .left))
+row-end-requires : tie.Need-row-end-requires
+row-end-requires c κs =
+    let i = c .before .before .before .before .before .before in
+    walked-room _ _ _ (c .before .row-start .ensures) (at-part _ _ _ (i .before .place-number .ensures) (i .if1 .left) .1)
 
-add-a : tie.Need-add-a
-add-a c = let i = c .before .before .before in omega (arith, at-part _ _ _ (i .before .place-number .ensures) (i .if1 .left))
-
-add-hardware-reset : tie.Need-add-hardware-reset
-add-hardware-reset c = let i = c .before .before .before in omega (arith, at-part _ _ _ (i .before .place-number .ensures) (i .if1 .left))
-
-part-hardware-reset-end : tie.Need-part-hardware-reset-end
-part-hardware-reset-end c = let i = c .before .before .before in omega (arith, at-part _ _ _ (i .before .place-number .ensures) (i .if1 .left))
+hardware-reset-requires : tie.Need-hardware-reset-requires
+hardware-reset-requires c κs = row-sized _ _ _ (c .before .row-end .ensures) .1
 
 settle-requires : tie.Need-settle-requires
 settle-requires c κs =
-    let i = c .before .before .before .before .before .before .before .before in
-    let h = at-part _ _ _ (i .before .place-number .ensures) (i .if1 .left) in
-    search needs
+    let h = c .before .before .before in
+    let e = h .before .before in
+    let a = e .before .before in
+    let i = a .before .before .before .before .before in
+    row-stays _ _ _ _ (walked-lies _ _ _ (a .row-start .ensures) (at-part _ _ _ (i .before .place-number .ensures) (i .if1 .left) .1) _ (e .row-end .ensures))
+    rowAfterReset _ (h .hardware-reset .ensures) (λ r. size-put r hardwareReset)
 
 returns-2 : tie.Need-returns-2
 returns-2 c =
     let s = c .before .before in
     let h = s .before .before .before .before in
-    let o = h .before .before in
+    let e = h .before .before in
+    let a = e .before .before in
+    let o = a .before .before in
     let i = o .before .before .before in
-    reset-done _ _ _ (i .before .place-number .ensures) (i .if1 .left) _ (online-is _ _ _ _ (o .before .regs-at .ensures) (o .on-line .ensures))
-    _ (h .hardware-reset .ensures) _ (s .settle .ensures)
+    let n = i .before .place-number .ensures in
+    reset-done _ _ _ n (i .if1 .left) _ (online-is _ _ _ _ (o .before .regs-at .ensures) (o .on-line .ensures)) _ _
+    (walked-lies _ _ _ (a .row-start .ensures) (at-part _ _ _ n (i .if1 .left) .1) _ (e .row-end .ensures)) _ (h .hardware-reset .ensures) _ (s .settle .ensures)
 
 pub reset-spec : {M : Type 1} → statement M
 reset-spec =
     tie.close
-    (tie.spec (λ c κs. search needs) (λ c. search needs) returns regs-at-requires (λ c κs. search needs) mul-a add-a
-    add-hardware-reset (λ c. search needs) (λ c. search needs) part-hardware-reset-end (λ c κs. search needs)
-    settle-requires (λ c. search needs) returns-2)
+    (tie.spec (λ c κs. search needs) (λ c. search needs) returns regs-at-requires (λ c κs. search needs) (λ c κs. search needs) row-end-requires
+    (λ c. search needs) (λ c. search needs) (λ c. search needs) hardware-reset-requires settle-requires (λ c. search needs) returns-2)

@@ -1,18 +1,19 @@
 -- `table::network::header_fits` meets its contract. Assumes nothing.
 use borrow.Author.Needs.{needs}
-use Rattle.table.specs.Network.{headerFits}
+use Rattle.table.proofs.Rows.Headers.{header-asked}
 use Rattle.table.proofs.network.header_fits.Statement.{statement}
 use Rattle.table.proofs.network.header_fits.Tie as tie
 
 returns : tie.Need-returns
-unfolding headerFits
 returns c =
-    let p = c .before .before in
-    simp (c .all-zero .ensures, p .phase .ensures, p .before .before .before .before .rows .ensures .0)
+    let z = c .before in
+    let p = z .before .before in
+    let r = p .before .before .before .before in
+    header-asked _ (r .before .before .pre) _ (r .rows .ensures .0) _ (p .phase .ensures) _ (z .all-zero .ensures) _ (c .row-start .ensures)
 
 pub header-fits-spec : {M : Type 1} → statement M
 header-fits-spec =
     tie.close
     (tie.spec (λ c κs. search needs) (λ c. search needs) (λ c. search needs) (λ c. search needs)
     (λ c. search needs) (λ c. search needs) (λ c κs. search needs) (λ c. search needs) (λ c. search needs)
-    (λ c. search needs) (λ c κs. search needs) (λ c. search needs) (λ c. search needs) returns)
+    (λ c. search needs) (λ c κs. search needs) (λ c κs. search needs) returns)

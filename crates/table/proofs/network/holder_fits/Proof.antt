@@ -1,7 +1,9 @@
 -- `table::network::holder_fits` meets its contract. Assumes nothing.
+use native.Mathlib.Omega.{arith}
 use borrow.Author.Needs.{needs}
 use borrow.Author.Tests.{eq-eqb, ne-eqb, lt-ltb, le-ltb}
 use Rattle.table.specs.Network.{holderFits}
+use Rattle.table.proofs.Rows.WithRows.{row-within}
 use Rattle.table.proofs.Online.Nodes.{online-is}
 use Rattle.table.proofs.network.holder_fits.Statement.{statement}
 use Rattle.table.proofs.network.holder_fits.Tie as tie
@@ -16,6 +18,12 @@ returns-2 c =
     let b = c .before .before in
     simp (ne-eqb _ _ (simp (b .before .phase .ensures) at (b .if1 .left)), le-ltb _ _ (simp (c .before .rows .ensures .0, b .before .before .holder .ensures .0) at (c .if2 .taken)))
 
+regs-at-requires : tie.Need-regs-at-requires
+regs-at-requires c κs =
+    let p = c .before .before .before .before in
+    let s = p .before .before in
+    row-within _ _ (s .pre .1) _ (omega (arith, c .if2 .left, c .before .rows .ensures))
+
 returns-3 : tie.Need-returns-3
 unfolding holderFits
 returns-3 c =
@@ -29,4 +37,4 @@ pub holder-fits-spec : {M : Type 1} → statement M
 holder-fits-spec =
     tie.close
     (tie.spec (λ c κs. search needs) (λ c κs. search needs) returns (λ c κs. search needs) returns-2
-    (λ c κs. search needs) (λ c κs. search needs) returns-3)
+    regs-at-requires (λ c κs. search needs) returns-3)

@@ -1,17 +1,22 @@
 -- `table::network::row_at` meets its contract. Assumes nothing.
 use mathlib.Core.Path.{_∙_, ap}
-use lib.ListN.{length}
+use Prim.Native.Nat.{suc}
+use native.Mathlib.Omega.{arith}
 use borrow.Author.Needs.{needs}
-use Rattle.places.proofs.Places.{onward-part}
-use Rattle.table.proofs.Rows.Networks.{mid-row, length-rowAt}
+use Rattle.places.specs.Places.{onward}
+use Rattle.table.proofs.Rows.Walks.{walk-row, walked-is, walked-room}
 use Rattle.table.proofs.network.row_at.Statement.{statement}
 use Rattle.table.proofs.network.row_at.Tie as tie
 
+row-from-requires : tie.Need-row-from-requires
+row-from-requires c κs = walked-room _ _ _ (c .row-start .ensures) (c .before .before .pre)
+
 returns : tie.Need-returns
-returns c = (mid-row _ _, (ap length (mid-row _ _) ∙ length-rowAt _ _ (c .before .pre), onward-part _ _))
+returns c =
+    let s = c .before .before .before in
+    let r = c .row-from .ensures in
+    let e = walked-is _ (s .args .k) _ (c .before .row-start .ensures) (s .pre) in
+    (walk-row _ (suc (s .args .k)) (s .pre) _ _ e (omega arith) _ (r .0), ((r .1 .0 .0, r .1 .0 .1), r .1 .1 ∙ ap (onward _) e))
 
 pub row-at-spec : {M : Type 1} → statement M
-row-at-spec =
-    tie.close
-    (tie.spec (λ c. search needs) (λ c. search needs) (λ c. search needs) (λ c. search needs)
-    (λ c. search needs) (λ c. search needs) returns)
+row-at-spec = tie.close (tie.spec (λ c κs. search needs) row-from-requires returns)
