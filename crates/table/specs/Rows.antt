@@ -7,7 +7,7 @@ use lib.ListN.{length, take, drop}
 use Rattle.bits.specs.Words.{pick}
 use Rattle.card.specs.Row.{rowSize}
 
--- "Header, 16 bytes", and then rows, each as long as its mark says
+-- "Header, 16 bytes", and then "n rows of 1,088 bytes": each as long as its mark says, and there is one mark
 abbrev pub headerBytes : ℕ
 headerBytes = 16
 

@@ -54,15 +54,15 @@ module _ (g : ℕ → List ℕ) (net now : List ℕ) (k a : ℕ) (p : Laying g n
   lay-end n d e q = p .is ∙ rw (append-assoc, ← joined-split, d, q)
 
 -- ---- f is done to each row: k of them are done, and a is where the next begins
-pub record Reached (f : ℕ → List ℕ → List ℕ) (net now : List ℕ) (k a : ℕ) : Type 0 where
+pub record DoneTo (f : ℕ → List ℕ → List ℕ) (net now : List ℕ) (k a : ℕ) : Type 0 where
   pub at : a ≡ rowStart net k
   pub laying : Laying (λ j. f j (rowAt net j)) net now k a
 
 module _ (f : ℕ → List ℕ → List ℕ) (net : List ℕ) (n : ℕ) (h : rowStart net n ≤ length net) where
-  pub pass-none : Reached f net net 0 headerBytes
+  pub pass-none : DoneTo f net net 0 headerBytes
   pass-none = record { at = sym (start-zero net); laying = lay-none _ net (omega (arith, start-least net n)) }
 
-  module _ {now : List ℕ} {k a : ℕ} (p : Reached f net now k a) where
+  module _ {now : List ℕ} {k a : ℕ} (p : DoneTo f net now k a) where
     pass-rest : drop a now ≡ drop a net
     pass-rest = lay-rest _ net now k a (p .laying)
 
@@ -89,7 +89,7 @@ module _ (f : ℕ → List ℕ → List ℕ) (net : List ℕ) (n : ℕ) (h : row
         pass-part = let m : e - a ≡ rowSize (drop (rowStart net k) net) = omega (arith, row-ends e d, p .at, start-more net k) in rw (pass-rest, m, p .at)
 
         pub pass-next : (r : List ℕ) → r ≡ f k (midOf a (e - a) now) → length r ≡ length (midOf a (e - a) now)
-            → Reached f net (putMid a (e - a) now r) (k + 1) e
+            → DoneTo f net (putMid a (e - a) now r) (k + 1) e
         pass-next r q m = record {
           at = rw add-one (row-ends e d);
           laying = lay-next _ net now k a (p .laying) e (omega arith) r (q ∙ ap (f k) pass-part) (m ∙ mid-len a e now (omega (arith, each-room)));

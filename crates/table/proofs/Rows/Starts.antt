@@ -9,7 +9,6 @@ use native.Mathlib.Omega.{arith}
 use lib.ListN.{length, getD, set, take, drop}
 use lib.Seq.{length-take-le, drop-drop, drop-set-lt, take-set-lt, set-append-left, getD-take}
 use Rattle.card.specs.Row.{rowSize}
-use Rattle.card.proofs.Rows.Sizes.{size-least}
 use Rattle.table.specs.Rows.{headerBytes, rowStart, rowAt, setRow}
 
 -- numbers of which none is less than the one before it
@@ -30,9 +29,6 @@ module _ (net : List ℕ) where
   pub start-mono : (j n : ℕ) → j ≤ n → rowStart net j ≤ rowStart net n
   start-mono = mono (rowStart net) (λ k. omega (arith, start-more k))
 
-  pub start-strict : (j n : ℕ) → j < n → rowStart net j < rowStart net n
-  start-strict j n l = omega (arith, start-mono (suc j) n l, start-more j, size-least (drop (rowStart net j) net))
-
   pub start-least : (k : ℕ) → headerBytes ≤ rowStart net k
   start-least k = omega (arith, start-mono 0 k (omega arith), start-zero)
 
@@ -44,12 +40,6 @@ pub record Frame (net new : List ℕ) (n : ℕ) : Type 0 where
   pub size : length new ≡ length net
   pub header : take headerBytes new ≡ take headerBytes net
   pub starts : (k : ℕ) → k ≤ n → rowStart new k ≡ rowStart net k
-
-pub frame-refl : (net : List ℕ) (n : ℕ) → Frame net net n
-frame-refl net n = record { size = refl; header = refl; starts = λ k l. refl }
-
-pub frame-trans : {a b c : List ℕ} {n : ℕ} → Frame a b n → Frame b c n → Frame a c n
-frame-trans p q = record { size = q .size ∙ p .size; header = q .header ∙ p .header; starts = λ k l. q .starts k l ∙ p .starts k l }
 
 pub frame-within : {net new : List ℕ} {n : ℕ} → Frame net new n → rowStart net n ≤ length net → rowStart new n ≤ length new
 frame-within {n = n} f h = omega (arith, f .size, f .starts n (omega arith))

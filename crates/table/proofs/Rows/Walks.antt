@@ -77,7 +77,7 @@ module _ (net : List ℕ) (k a e : ℕ) (p : Lies net k a e) where
   unfolding rowAt
   mid-row = rw (size-is, p .start)
 
-  pub put-row : (r : List ℕ) → putMid a (e - a) net r ≡ setRow net k r
+  put-row : (r : List ℕ) → putMid a (e - a) net r ≡ setRow net k r
   unfolding setRow
   put-row r = rw (size-is, p .start)
 

@@ -8,7 +8,6 @@ use lib.Dec.{eqb}
 use lib.ListN.{length, getD, set, take, drop, length-drop, drop-of-length-le}
 use lib.Seq.{length-take-le, take-at, drop-drop, drop-set-lt, take-set-lt, set-append-left, getD-take, getD-drop}
 use borrow.Author.Tests.{eqb-true, eq-eqb, ne-eqb}
-use borrow.Rule.Slice.PartMut.{put-same, set-mid-at}
 use Rattle.bits.specs.Words.{pick}
 use Rattle.bits.proofs.Words.Bools.{pick-of}
 use Rattle.card.specs.Row.{rowSize, Whole}
@@ -16,11 +15,6 @@ use Rattle.card.proofs.Rows.Sizes.{first-whole, SameSize, size-same, size-whole
 use Rattle.table.specs.Rows.{headerBytes, rowStart, rowAt, setRow, joined, withRows}
 use Rattle.table.proofs.Rows.View.{joined-cut, joined-ext, view-from, view-next, view-at, view-end, join-front, join-rest, join}
 use Rattle.table.proofs.Rows.Starts.{start-zero, start-more, start-mono, start-least, start-header, start-body, Frame}
-
--- a row put back as it was
-pub setRow-rowAt : (net : List ℕ) (k : ℕ) → setRow net k (rowAt net k) ≡ net
-unfolding setRow rowAt
-setRow-rowAt net k = put-same (rowStart net k) (rowSize (drop (rowStart net k) net)) net
 
 -- ---- the rows of a network that has n of them
 module _ (net : List ℕ) (n : ℕ) (h : rowStart net n ≤ length net) where
@@ -35,22 +29,18 @@ module _ (net : List ℕ) (n : ℕ) (h : rowStart net n ≤ length net) where
     unfolding rowAt
     row-whole = first-whole (drop (rowStart net k) net) (simp length-drop (omega (arith, row-within, start-more net k)))
 
-  pub start-next : (k : ℕ) → k < n → rowStart net (suc k) ≡ rowStart net k + length (rowAt net k)
+  start-next : (k : ℕ) → k < n → rowStart net (suc k) ≡ rowStart net k + length (rowAt net k)
   unfolding rowAt
   start-next k l =
       start-more net k
       ∙ ap (λ (x : ℕ). rowStart net k + x) (sym (length-take-le _ _ (simp length-drop (omega (arith, row-within k l, start-more net k)))))
 
-  -- a byte of a row, and a row with another byte
+  -- a byte of a row
   pub getD-rowAt : (k : ℕ) → k < n → (i : ℕ) → i < length (rowAt net k) → getD (rowAt net k) i 0 ≡ getD net (rowStart net k + i) 0
   unfolding rowAt
   getD-rowAt k l i b =
       getD-take (rowSize (drop (rowStart net k) net)) (drop (rowStart net k) net) i 0 (omega (arith, start-more net k, start-next k l))
       ∙ getD-drop (rowStart net k) net i 0
-
-  pub setRow-byte : (k i v : ℕ) → i < length (rowAt net k) → setRow net k (set (rowAt net k) i v) ≡ set net (rowStart net k + i) v
-  unfolding setRow rowAt
-  setRow-byte k i v b = set-mid-at (rowStart net k) (rowSize (drop (rowStart net k) net)) i net v b
 
   -- ---- other rows, each whole
   module _ (g : ℕ → List ℕ) (w : (k : ℕ) → k < n → Whole (g k)) where
@@ -128,11 +118,7 @@ module _ (net : List ℕ) (n : ℕ) (h : rowStart net n ≤ length net) where
       pub setRow-frame : Frame net (setRow net k r) n
       setRow-frame = rw setRow-with (with-frame _ (λ j b. size-whole (same-at j b) (row-whole j b)) (λ j b. same-at j b .long))
 
--- ---- the rows that a network has; rows that are the same
-pub with-same : (net : List ℕ) (n : ℕ) → withRows net n (rowAt net) ≡ net
-unfolding withRows
-with-same net n = sym (join net n)
-
+-- ---- rows that are the same
 pub with-ext : (net : List ℕ) (n : ℕ) (f g : ℕ → List ℕ) → ((k : ℕ) → k < n → f k ≡ g k) → withRows net n f ≡ withRows net n g
 unfolding withRows
 with-ext net n f g e = rw (joined-ext f g n 0 (drop (rowStart net n) net) (λ k a b. e k (omega arith)))

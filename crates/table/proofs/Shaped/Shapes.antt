@@ -80,7 +80,7 @@ module _ (net : List ℕ) (s : shape net ≡ true) where
   pub shape-header : headerFits net ≡ true
   shape-header = tests .0
 
-  pub shape-length : length net ≡ rowStart net (rows net)
+  shape-length : length net ≡ rowStart net (rows net)
   shape-length = header-length net shape-header
 
   -- the rows and the header lie in the network

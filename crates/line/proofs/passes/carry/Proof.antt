@@ -4,14 +4,14 @@ use Prim.Native.Nat.{_-_, _≤_}
 use native.Mathlib.Omega.{arith}
 use Rattle.line.specs.Traffic.{carriedRow}
 use Rattle.table.proofs.Rows.WithRows.{row-whole}
-use Rattle.table.proofs.Rows.Passes.{Reached, pass-none, pass-length, pass-part, pass-next, each-room, each-end}
+use Rattle.table.proofs.Rows.Passes.{DoneTo, pass-none, pass-length, pass-part, pass-next, each-room, each-end}
 use Rattle.table.proofs.Shaped.Shapes.{fits-row}
 use borrow.Author.Needs.{needs}
 use Rattle.line.proofs.passes.carry.Statement.{statement}
 use Rattle.line.proofs.passes.carry.Tie as tie
 
 abbrev Inv-loop : tie.InvT-loop
-Inv-loop net₀ n h to broadcast packet a₀ k₀ net a k = (k ≤ n) × Reached (carriedRow h to broadcast packet) net₀ net k a
+Inv-loop net₀ n h to broadcast packet a₀ k₀ net a k = (k ≤ n) × DoneTo (carriedRow h to broadcast packet) net₀ net k a
 
 abbrev μ-loop : tie.MeasureT-loop
 μ-loop net₀ n h to broadcast packet a₀ k₀ net a k = n - k

@@ -10,7 +10,7 @@ use Rattle.table.specs.Network.{onRegs}
 use Rattle.line.specs.Traffic.{happens}
 use Rattle.card.proofs.Rows.Sizes.{whole-registers}
 use Rattle.table.proofs.Rows.WithRows.{row-whole}
-use Rattle.table.proofs.Rows.Passes.{Reached, pass-none, pass-length, pass-part, pass-next, each-room, each-end}
+use Rattle.table.proofs.Rows.Passes.{DoneTo, pass-none, pass-length, pass-part, pass-next, each-room, each-end}
 use borrow.Author.Needs.{needs}
 use Rattle.line.proofs.passes.happen.Statement.{statement}
 use Rattle.line.proofs.passes.happen.Tie as tie
@@ -19,7 +19,7 @@ abbrev reach : Event → ℕ → List ℕ → List ℕ
 reach e k r = onRegs (happens e k) r
 
 abbrev Inv-loop : tie.InvT-loop
-Inv-loop net₀ n event a₀ k₀ net a k = (k ≤ n) × Reached (reach event) net₀ net k a
+Inv-loop net₀ n event a₀ k₀ net a k = (k ≤ n) × DoneTo (reach event) net₀ net k a
 
 abbrev μ-loop : tie.MeasureT-loop
 μ-loop net₀ n event a₀ k₀ net a k = n - k
