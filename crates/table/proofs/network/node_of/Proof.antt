@@ -2,11 +2,15 @@
 -- Assumes nothing.
 use mathlib.Core.Path.{_≡_, sym, _∙_, ap}
 use mathlib.Core.Bool.{Bool, not, _&&_}
-use Prim.Native.Nat.{_≤_, _-_}
+use mathlib.Core.List.{List}
+use Prim.Native.Nat.{ℕ, _-_, _≤_, _<_}
 use lib.Dec.{eqb}
+use lib.ListN.{length, take, drop}
 use native.Mathlib.Omega.{arith}
 use borrow.Author.Needs.{needs}
-use Rattle.card.specs.Row.{regsOf}
+use Rattle.registers.specs.declared.regs.Regs.{Regs}
+use Rattle.registers.specs.Fit.{onLine}
+use Rattle.card.specs.Row.{rowSize, regsOf}
 use Rattle.table.specs.Folds.{seek}
 use Rattle.table.specs.Rows.{rowStart}
 use Rattle.table.specs.Network.{nodeOf}
@@ -31,32 +35,34 @@ row-from-requires c κs =
     let l = c .before in
     walk-room _ _ (l .before .before .pre) _ _ (l .loop .inv .1) (c .loop-test .taken)
 
+-- what is asked of row k, which starts at a and is read as r, with the registers g
+asked : (net : List ℕ) (id except n : ℕ) → rowStart net n ≤ length net → (k a : ℕ) → a ≡ rowStart net k → k < n
+    → (r : List ℕ) → r ≡ take (rowSize (drop a net)) (drop a net) → (g : Regs) → g ≡ regsOf r → (b : Bool) → b ≡ onLine g
+    → other net id except k ≡ (b && eqb (g .id) id && not (eqb k except))
+asked net id except n h k a p l r er g eg b eb =
+    sym (ap (λ (x : Bool). x && not (eqb k except)) (node-is net k g b (eg ∙ ap regsOf (walk-row net n h k a p l r er)) eb id))
+
 returns : tie.Need-returns Inv-loop μ-loop
 unfolding nodeOf
 returns c =
     let f = c .before .before .before .before in
     let l = f .before .before in
     let s = l .before .before in
-    let a = s .args in
-    let g = f .before .loop-test .taken in
-    let r = walk-row (a .net .now) (a .n) (s .pre) (l .loop .k) _ (l .loop .inv .1) g _ (f .row-from .ensures .0) in
-    let e = node-is (a .net .now) (l .loop .k) _ _ (c .before .before .before .load .ensures ∙ ap regsOf r) (c .before .before .on-line .ensures) (a .id) in
-    sym (seek-here (other (a .net .now) (a .id) (a .except)) (a .n) (l .loop .k) (l .loop .inv .2)
-    (ap (λ (b : Bool). b && not (eqb (l .loop .k) (a .except))) (sym e) ∙ c .if1 .taken) g)
+    sym (seek-here _ (s .args .n) _ (l .loop .inv .2)
+    (asked _ (s .args .id) (s .args .except) _ (s .pre) _ _ (l .loop .inv .1) (f .before .loop-test .taken) _ (f .row-from .ensures .0) _ (c .before .before .before .load .ensures) _ (c .before .before .on-line .ensures)
+    ∙ c .if1 .taken) (f .before .loop-test .taken))
 
 loop-again : tie.Need-loop-again Inv-loop μ-loop
 loop-again c =
     let f = c .before .before .before .before in
+    let t = f .before .loop-test .taken in
     let l = f .before .before in
-    let s = l .before .before in
-    let a = s .args in
-    let g = f .before .loop-test .taken in
-    let r = walk-row (a .net .now) (a .n) (s .pre) (l .loop .k) _ (l .loop .inv .1) g _ (f .row-from .ensures .0) in
-    let e = node-is (a .net .now) (l .loop .k) _ _ (c .before .before .before .load .ensures ∙ ap regsOf r) (c .before .before .on-line .ensures) (a .id) in (
+    let s = l .before .before in (
       search needs,
-      walk-on (a .net .now) (a .n) (s .pre) (l .loop .k) _ (l .loop .inv .1) g _ (f .row-from .ensures .0),
-      seek-more (other (a .net .now) (a .id) (a .except)) (l .loop .k) (l .loop .inv .2)
-          (ap (λ (b : Bool). b && not (eqb (l .loop .k) (a .except))) (sym e) ∙ c .if1 .left),
+      walk-on _ (s .args .n) (s .pre) _ _ (l .loop .inv .1) t _ (f .row-from .ensures .0),
+      seek-more _ _ (l .loop .inv .2)
+          (asked _ (s .args .id) (s .args .except) _ (s .pre) _ _ (l .loop .inv .1) t _ (f .row-from .ensures .0) _ (c .before .before .before .load .ensures) _ (c .before .before .on-line .ensures)
+          ∙ c .if1 .left),
     )
 
 returns-2 : tie.Need-returns-2 Inv-loop μ-loop
