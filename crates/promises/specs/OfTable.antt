@@ -10,7 +10,7 @@ pub record OfTable : Type 0 where
   pub rows : Fixed network.rows.ended network.rows.Reads.Learnt
   pub phase : Fixed network.phase.ended network.phase.Reads.Learnt
   pub holder : Fixed network.holder.ended network.holder.Reads.Learnt
-  pub row-start : Once network.row_start.ended network.row_start.Reads.Asked network.row_start.Reads.Learnt
+  pub row-start : Fixed network.row_start.ended network.row_start.Reads.Learnt
   pub row-end : Fixed network.row_end.ended network.row_end.Reads.Learnt
   pub row-from : FixedBy network.row_from.ended (λ κs. SamePart) network.row_from.Reads.Learnt
   pub row-at : FixedBy network.row_at.ended (λ κs. SamePart) network.row_at.Reads.Learnt

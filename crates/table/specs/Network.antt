@@ -12,7 +12,7 @@ use Rattle.card.specs.Row.{regsOf, putRegs, zeros, wellFormed}
 use Rattle.registers.specs.Fit.{onLine}
 use Rattle.card.specs.Moves.{OnlyAt}
 use Rattle.table.specs.Folds.{every, some, seek}
-use Rattle.table.specs.Rows.{headerBytes, rowStart, rowAt}
+use Rattle.table.specs.Rows.{headerBytes, rowAt, rowsEnd}
 
 -- "Header, 16 bytes: mark 41 4E hex; byte 2 = 1; byte 3 = rows n, 1 to 60; byte 4 = phase (0 LOST, 1 PASS, 2 TAKEN); byte 5 = holder row,
 -- 0 in LOST; 6-15 zero."
@@ -76,7 +76,7 @@ unfoldable pub headerFits : List ℕ → Bool
 headerFits net =
     all
     (eqb (getD net 0 0) (getD mark 0 0) ∷ eqb (getD net 1 0) (getD mark 1 0) ∷ eqb (getD net 2 0) 1 ∷ ltb 0 (rows net) ∷ leb (rows net) rowLimit
-    ∷ ltb (phase net) 3 ∷ zeros (take 10 (drop 6 net)) ∷ eqb (length net) (rowStart net (rows net)) ∷ [])
+    ∷ ltb (phase net) 3 ∷ zeros (take 10 (drop 6 net)) ∷ rowsEnd net (rows net) ∷ [])
 
 -- each row is well formed by itself
 unfoldable pub rowsFit : List ℕ → ℕ → Bool

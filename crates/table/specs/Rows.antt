@@ -1,10 +1,10 @@
 -- Document 01, "The saved network": where the rows stand, a row, and the network with other rows.
 -- Assumes nothing.
+use mathlib.Core.Bool.{Bool}
 use mathlib.Core.List.{List, _++_}
 use Prim.Native.Nat.{ℕ, zero, suc, _+_}
-use lib.Dec.{leb}
+use lib.Dec.{eqb}
 use lib.ListN.{length, take, drop}
-use Rattle.bits.specs.Words.{pick}
 use Rattle.card.specs.Row.{rowSize}
 
 -- "Header, 16 bytes", and then "n rows of 1,088 bytes": each as long as its mark says, and there is one mark
@@ -22,9 +22,9 @@ rowAt net k = take (rowSize (drop (rowStart net k) net)) (drop (rowStart net k) 
 unfoldable pub setRow : List ℕ → ℕ → List ℕ → List ℕ
 setRow net k r = take (rowStart net k) net ++ (r ++ drop (rowSize (drop (rowStart net k) net)) (drop (rowStart net k) net))
 
--- where the walk over k rows comes to; 0 where it leaves the bytes, which may be any
-unfoldable pub walked : List ℕ → ℕ → ℕ
-walked net k = pick (leb (rowStart net k) (length net)) (rowStart net k) 0
+-- the bytes end where the first n rows end
+abbrev pub rowsEnd : List ℕ → ℕ → Bool
+rowsEnd net n = eqb (length net) (rowStart net n)
 
 -- m rows one after the other, g k, g (k + 1), .., and then t
 unfoldable pub joined : (ℕ → List ℕ) → ℕ → ℕ → List ℕ → List ℕ

@@ -4,7 +4,7 @@ ghost use Prim.Native.Nat.{suc, _+_, _≤_, _<_};
 ghost use lib.ListN.{length, take, drop};
 ghost use Rattle.places.specs.Places.{onward};
 ghost use Rattle.card.specs.Row.{registerBytes, rowSize, Whole, putRegs};
-ghost use Rattle.table.specs.Rows.{headerBytes, rowStart, rowAt, setRow, walked};
+ghost use Rattle.table.specs.Rows.{headerBytes, rowStart, rowAt, setRow, rowsEnd};
 ghost use Rattle.table.specs.Network.{rows, phase, holder, turned, regsAt, nodeOf, topId, headerFits, rowsFit, idsDiffer, holderFits, shape};
 use registers::regs::Regs;
 
@@ -50,22 +50,15 @@ pub fn holder(net: &[u8]) -> usize
     wide(net[5])
 }
 
-// Where row k starts, found by walking over the rows before it, each as long as its mark says; 0 where the walk leaves the
-// bytes, which may be any.
+// Where row k starts: the rows before it are walked over.
 pub fn row_start(net: &[u8], k: usize) -> usize
-    ensures { λ r. ⌜ r ≡ walked (now (net .entry)) k ⌝ }
+    requires { ⌜ rowStart (now net) (suc k) ≤ length (now net) ⌝ }
+    ensures { λ r. ⌜ r ≡ rowStart (now (net .entry)) k ⌝ }
 {
-    if net.len() < HEADER {
-        return 0;
-    }
     let mut a = HEADER;
     let mut i = 0;
     while i < k {
-        let size = card::row::size(&net[a..net.len()]);
-        if net.len() - a < size {
-            return 0;
-        }
-        a += size;
+        a = row_end(net, a);
         i += 1;
     }
     a
@@ -163,6 +156,25 @@ pub fn top_id(net: &[u8], n: usize) -> u8
     top
 }
 
+// The bytes end where the first n rows end. Any bytes behind a header may be asked about, so that each row is looked for before it
+// is passed over.
+fn rows_end(net: &[u8], n: usize) -> bool
+    requires { ⌜ headerBytes ≤ length (now net) ⌝ }
+    ensures { λ r. ⌜ r ≡ rowsEnd (now (net .entry)) n ⌝ }
+{
+    let mut a = HEADER;
+    let mut k = 0;
+    while k < n {
+        let size = card::row::size(&net[a..net.len()]);
+        if net.len() - a < size {
+            return false;
+        }
+        a += size;
+        k += 1;
+    }
+    net.len() == a
+}
+
 fn header_fits(net: &[u8]) -> bool
     requires { ⌜ headerBytes ≤ length (now net) ⌝ }
     ensures { λ r. ⌜ r ≡ headerFits (now (net .entry)) ⌝ }
@@ -175,7 +187,7 @@ fn header_fits(net: &[u8]) -> bool
         & (n <= ROWS)
         & (phase(net) < 3)
         & card::row::all_zero(&net[6..HEADER])
-        & (net.len() == row_start(net, n))
+        & rows_end(net, n)
 }
 
 fn rows_fit(net: &[u8], n: usize) -> bool

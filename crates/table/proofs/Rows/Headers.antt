@@ -11,10 +11,9 @@ use lib.Seq.{length-take-le, getD-take, getD-drop, ext-getD}
 use borrow.Author.Tests.{eqb-true, eq-eqb, ltb-true, lt-ltb, leb-true, le-leb, not-false}
 use Rattle.card.specs.Row.{zeros}
 use Rattle.bits.proofs.Words.Bools.{holds}
-use Rattle.table.specs.Rows.{headerBytes, rowStart, walked}
+use Rattle.table.specs.Rows.{headerBytes, rowStart, rowsEnd}
 use Rattle.table.specs.Network.{mark, rowLimit, rows, phase, headerFits}
 use Rattle.table.proofs.Rows.Starts.{start-least}
-use Rattle.table.proofs.Rows.Walks.{walked-fits}
 
 -- the tests of `headerFits`
 abbrev tests : List ℕ → List Bool
@@ -72,13 +71,13 @@ header-kept net new t l w e p =
         getD-take 10 (drop 6 new) i 0 h ∙ getD-drop 6 new i 0 ∙ e (6 + i) (omega arith) (λ q. omega arith) (λ q. omega arith)
         ∙ sym (getD-take 10 (drop 6 net) i 0 h ∙ getD-drop 6 net i 0))
 
--- the header as the code asks it, where the walk over the rows comes to a
-pub header-asked : (net : List ℕ) → headerBytes ≤ length net → (n : ℕ) → n ≡ rows net → (p : ℕ) → p ≡ phase net
-    → (z : Bool) → z ≡ zeros (take 10 (drop 6 net)) → (a : ℕ) → a ≡ walked net n
+-- the header as the code asks it
+pub header-asked : (net : List ℕ) (n : ℕ) → n ≡ rows net → (p : ℕ) → p ≡ phase net
+    → (z : Bool) → z ≡ zeros (take 10 (drop 6 net)) → (a : Bool) → a ≡ rowsEnd net n
     → (eqb (getD net 0 0) (getD mark 0 0) && eqb (getD net 1 0) (getD mark 1 0) && eqb (getD net 2 0) 1 && ltb 0 n && leb n rowLimit
-    && ltb p 3 && z && eqb (length net) a) ≡ headerFits net
+    && ltb p 3 && z && a) ≡ headerFits net
 unfolding headerFits
-header-asked net h n d p q z e a f = rw (walked-fits net n a f (omega arith), d, q, e)
+header-asked net n d p q z e a f = rw (f, d, q, e)
 
 -- what the code learns of the length where it does not refuse the header
 pub header-told : (net : List ℕ) (b : Bool) → b ≡ headerFits net → not b ≡ false → rowStart net (rows net) ≤ length net

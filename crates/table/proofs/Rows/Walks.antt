@@ -1,21 +1,18 @@
 -- The walk over the marks, as the code goes: one more row, what the walk comes to, and the part that is lent for a row.
 -- Assumes nothing.
 use mathlib.Core.Path.{_≡_, refl, sym, _∙_, ap}
-use mathlib.Core.Bool.{true, false}
+use mathlib.Core.Bool.{false}
 use mathlib.Core.List.{List}
-use mathlib.Core.Logic.{⊎-elim}
 use Prim.Native.Nat.{ℕ, suc, _+_, _-_, _≤_, _<_}
 use native.Mathlib.Numerals.{add-one}
 use native.Mathlib.Omega.{arith}
-use lib.Dec.{eqb, leb}
 use lib.ListN.{length, take, drop, length-drop}
 use lib.Seq.{length-take-le, take-all}
-use borrow.Author.Tests.{leb-false, le-leb, lt-leb, ne-eqb}
+use borrow.Author.Tests.{ne-eqb}
 use borrow.Rule.Slice.PartMut.{midOf, putMid, mid-len}
-use Rattle.bits.proofs.Words.Bools.{cases}
 use Rattle.card.specs.Row.{registerBytes, rowSize, Whole}
 use Rattle.card.proofs.Rows.Sizes.{SameSize, whole-registers, first-whole}
-use Rattle.table.specs.Rows.{rowStart, rowAt, setRow, walked}
+use Rattle.table.specs.Rows.{rowStart, rowAt, setRow, rowsEnd}
 use Rattle.table.proofs.Rows.Starts.{start-more, start-mono, frame-within}
 use Rattle.table.proofs.Rows.WithRows.{setRow-frame}
 
@@ -91,33 +88,14 @@ module _ (net : List ℕ) (k a e : ℕ) (p : Lies net k a e) where
         let h : rowStart net (suc k) ≤ length net = omega (arith, p .end, p .within) in
         rw row-done (frame-within (setRow-frame net (suc k) h k (omega arith) (f (rowAt net k)) (same (rowAt net k))) h)
 
--- ---- what the walk comes to
-module _ (net : List ℕ) where
-  pub walked-past : (k n : ℕ) → k ≤ n → length net < rowStart net k → 0 ≡ walked net n
-  unfolding walked
-  walked-past k n l b = rw (lt-leb (rowStart net n) (length net) (omega (arith, start-mono net k n l)))
+-- ---- a row that is named by its number and lies in the bytes
+module _ (net : List ℕ) (k a : ℕ) (e : a ≡ rowStart net k) (h : rowStart net (suc k) ≤ length net) where
+  pub walked-room : a + rowSize (drop a net) ≤ length net
+  walked-room = rw (walk-size net k a e (rowSize (drop a net)) refl) h
 
-  pub walked-there : (n a : ℕ) → a ≡ rowStart net n → a ≤ length net → a ≡ walked net n
-  unfolding walked
-  walked-there n a e l = rw (le-leb (rowStart net n) (length net) (omega arith)) e
+  pub walked-lies : (d : ℕ) → (d ≡ a + rowSize (drop a net)) × (d ≤ length net) → Lies net k a d
+  walked-lies = lies net k a e
 
-  module _ (n a : ℕ) (e : a ≡ walked net n) where
-    -- row n is there
-    module _ (h : rowStart net (suc n) ≤ length net) where
-      pub walked-is : a ≡ rowStart net n
-      walked-is = e ∙ sym (walked-there n (rowStart net n) refl (omega (arith, start-mono net n (suc n) (omega arith))))
-
-      pub walked-room : a + rowSize (drop a net) ≤ length net
-      walked-room = rw (walk-size net n a walked-is (rowSize (drop a net)) refl) h
-
-      pub walked-lies : (d : ℕ) → (d ≡ a + rowSize (drop a net)) × (d ≤ length net) → Lies net n a d
-      walked-lies = lies net n a walked-is
-
-    -- whether the bytes end where the rows end
-    pub walked-fits : 0 < length net → eqb (length net) a ≡ eqb (length net) (rowStart net n)
-    unfolding walked
-    walked-fits l =
-        ⊎-elim (λ (t : leb (rowStart net n) (length net) ≡ true). rw (e, t))
-        (λ (t : leb (rowStart net n) (length net) ≡ false). let b = leb-false (rowStart net n) (length net) t in
-        rw (e, t, ne-eqb (length net) 0 (λ q. omega arith), ne-eqb (length net) (rowStart net n) (λ q. omega arith)))
-        (cases (leb (rowStart net n) (length net)))
+-- ---- a row that does not: the bytes do not end where the rows end
+pub ends-before : (net : List ℕ) (k n : ℕ) → k ≤ n → length net < rowStart net k → false ≡ rowsEnd net n
+ends-before net k n l b = sym (ne-eqb (length net) (rowStart net n) (λ e. omega (arith, start-mono net k n l)))

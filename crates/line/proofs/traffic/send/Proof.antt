@@ -10,6 +10,9 @@ use Rattle.line.proofs.traffic.send.Tie as tie
 rows-requires : tie.Need-rows-requires
 rows-requires c κs = bounds _ (c .before .before .pre .0) .header
 
+row-start-requires : tie.Need-row-start-requires
+row-start-requires c κs = let a = c .before .before .before .before in shape-within _ (a .pre .0) _ (a .pre .1 .0)
+
 row-end-requires : tie.Need-row-end-requires
 row-end-requires c κs =
     let a = c .before .before .before .before .before .before in
@@ -69,5 +72,5 @@ returns-2 c =
 pub send-spec : {M : Type 1} → statement M
 send-spec =
     tie.close
-    (tie.spec rows-requires (λ c κs. search needs) row-end-requires (λ c. search needs) (λ c. search needs) (λ c. search needs)
+    (tie.spec rows-requires row-start-requires row-end-requires (λ c. search needs) (λ c. search needs) (λ c. search needs)
     stamp-requires row-at-requires (λ c κs. search needs) happen-requires carry-requires (λ c. search needs) returns (λ c. search needs) returns-2)

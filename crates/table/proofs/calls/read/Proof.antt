@@ -8,6 +8,9 @@ use Rattle.table.proofs.calls.read.Tie as tie
 returns : tie.Need-returns
 returns c = read-refused _ _ _ _ (c .before .read-number .ensures) (c .if1 .taken)
 
+row-start-requires : tie.Need-row-start-requires
+row-start-requires c κs = let i = c .before in read-part _ _ _ _ (i .before .read-number .ensures) (i .if1 .left) .1
+
 row-end-requires : tie.Need-row-end-requires
 row-end-requires c κs =
     let i = c .before .before .before in
@@ -29,5 +32,5 @@ returns-2 c =
 pub read-spec : {M : Type 1} → statement M
 read-spec =
     tie.close
-    (tie.spec (λ c κs. search needs) (λ c. search needs) returns (λ c κs. search needs) row-end-requires (λ c. search needs)
+    (tie.spec (λ c κs. search needs) (λ c. search needs) returns row-start-requires row-end-requires (λ c. search needs)
     (λ c. search needs) (λ c. search needs) read-requires (λ c. search needs) returns-2)

@@ -16,6 +16,9 @@ returns c = reset-refused _ _ _ (c .before .place-number .ensures) (c .if1 .take
 regs-at-requires : tie.Need-regs-at-requires
 regs-at-requires c κs = at-part _ _ _ (c .before .before .place-number .ensures) (c .before .if1 .left) .1
 
+row-start-requires : tie.Need-row-start-requires
+row-start-requires c κs = let i = c .before .before .before .before in at-part _ _ _ (i .before .place-number .ensures) (i .if1 .left) .1
+
 row-end-requires : tie.Need-row-end-requires
 row-end-requires c κs =
     let i = c .before .before .before .before .before .before in
@@ -48,5 +51,5 @@ returns-2 c =
 pub reset-spec : {M : Type 1} → statement M
 reset-spec =
     tie.close
-    (tie.spec (λ c κs. search needs) (λ c. search needs) returns regs-at-requires (λ c κs. search needs) (λ c κs. search needs) row-end-requires
+    (tie.spec (λ c κs. search needs) (λ c. search needs) returns regs-at-requires (λ c κs. search needs) row-start-requires row-end-requires
     (λ c. search needs) (λ c. search needs) (λ c. search needs) hardware-reset-requires settle-requires (λ c. search needs) returns-2)

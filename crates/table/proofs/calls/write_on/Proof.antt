@@ -32,6 +32,9 @@ returns c =
     (is-duplicate _ _ _ _ e _ _ (a .after-write .ensures) _ (o .before .rows .ensures .0) _ (o .on-line .ensures) _ (d .node-of .ensures))
     _ (c .before .refuse .ensures)) (c .if1 .taken)
 
+row-start-requires : tie.Need-row-start-requires
+row-start-requires c κs = let p = c .before .before .before .before .before .before .before .before .before .before .before .before .before .pre in shape-within _ (p .0) _ (p .1)
+
 row-end-requires : tie.Need-row-end-requires
 row-end-requires c κs =
     let p = c .before .before .before .before .before .before .before .before .before .before .before .before .before .before .before .pre in
@@ -72,5 +75,5 @@ pub write-on-spec : {M : Type 1} → statement M
 write-on-spec =
     tie.close
     (tie.spec regs-at-requires (λ c κs. search needs) rows-requires (λ c κs. search needs) node-of-requires (λ c κs. search needs)
-    (λ c κs. search needs) (λ c. search needs) returns (λ c κs. search needs) row-end-requires (λ c. search needs)
+    (λ c κs. search needs) (λ c. search needs) returns row-start-requires row-end-requires (λ c. search needs)
     (λ c. search needs) (λ c. search needs) write-requires (λ c κs. search needs) settle-requires (λ c. search needs) returns-2)

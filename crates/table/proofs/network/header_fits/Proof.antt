@@ -9,7 +9,7 @@ returns c =
     let z = c .before in
     let p = z .before .before in
     let r = p .before .before .before .before in
-    header-asked _ (r .before .before .pre) _ (r .rows .ensures .0) _ (p .phase .ensures) _ (z .all-zero .ensures) _ (c .row-start .ensures)
+    header-asked _ _ (r .rows .ensures .0) _ (p .phase .ensures) _ (z .all-zero .ensures) _ (c .rows-end .ensures)
 
 pub header-fits-spec : {M : Type 1} → statement M
 header-fits-spec =
