@@ -23,8 +23,8 @@ rowBytes = registerBytes + ramBytes
 abbrev pub mark : List ℕ
 mark = 0x4e ∷ 0x44 ∷ []
 
--- the length of the row that these bytes begin with, which its mark says: there is one kind of row, and where the mark is another, which no well-formed row has, the
--- bytes are taken for a row of that kind
+-- the length of the row that these bytes begin with, as its mark says. There is one kind of row: bytes with another mark, which no well-formed row
+-- has, are taken for a row of that kind
 unfoldable pub rowSize : List ℕ → ℕ
 rowSize r = rowBytes
 
