@@ -1,15 +1,15 @@
 -- `line::step::pass` meets its contract. Assumes nothing.
 use mathlib.Core.Path.{_∙_}
-use native.Mathlib.Omega.{arith}
 use mathlib.Core.Bool.{true}
+use native.Mathlib.Omega.{arith}
 use Rattle.line.specs.declared.passes.Event.the-variants.{Message}
 use Rattle.table.proofs.Shaped.Shapes.{shape-rows}
 use Rattle.table.proofs.Shaped.Bounds.{bounds, header-room}
 use Rattle.line.proofs.Turn.Turns.{is-lost, is-passed, is-unanswered}
+use Rattle.line.proofs.Turn.Sends.{happened-bounds}
 use borrow.Author.Needs.{needs}
 use Rattle.line.proofs.step.pass.Statement.{statement}
 use Rattle.line.proofs.step.pass.Tie as tie
-use Rattle.line.proofs.Turn.Sends.{happened-bounds}
 
 rows-requires : tie.Need-rows-requires
 rows-requires c κs = bounds _ (c .before .before .pre .0) .header

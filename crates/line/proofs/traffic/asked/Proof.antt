@@ -3,10 +3,10 @@ use mathlib.Core.Bool.{false}
 use Rattle.line.specs.declared.passes.Event.the-variants.{Message}
 use Rattle.table.proofs.Shaped.Bounds.{bounds}
 use Rattle.line.proofs.Turn.Outcomes.{asked-is}
+use Rattle.line.proofs.Turn.Sends.{happened-bounds}
 use borrow.Author.Needs.{needs}
 use Rattle.line.proofs.traffic.asked.Statement.{statement}
 use Rattle.line.proofs.traffic.asked.Tie as tie
-use Rattle.line.proofs.Turn.Sends.{happened-bounds}
 
 rows-requires : tie.Need-rows-requires
 rows-requires c κs = bounds _ (c .before .before .pre .0) .header

@@ -1,12 +1,12 @@
 -- `line::traffic::broadcast` meets its contract. Assumes nothing.
+use native.Mathlib.Omega.{arith}
 use Rattle.registers.specs.Events.{sent}
 use Rattle.table.proofs.Shaped.Bounds.{bounds}
 use Rattle.line.proofs.Turn.Outcomes.{is-broadcast}
+use Rattle.line.proofs.Turn.Sends.{went-bounds}
 use borrow.Author.Needs.{needs}
 use Rattle.line.proofs.traffic.broadcast.Statement.{statement}
 use Rattle.line.proofs.traffic.broadcast.Tie as tie
-use Rattle.line.proofs.Turn.Sends.{went-bounds}
-use native.Mathlib.Omega.{arith}
 
 rows-requires : tie.Need-rows-requires
 rows-requires c κs = bounds _ (c .before .before .pre .0) .header

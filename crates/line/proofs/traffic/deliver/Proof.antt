@@ -1,11 +1,11 @@
 -- `line::traffic::deliver` meets its contract. Assumes nothing.
+use native.Mathlib.Omega.{arith}
 use Rattle.table.proofs.Shaped.Shapes.{shape-within}
 use Rattle.line.proofs.Turn.Outcomes.{ack-is, delivered}
+use Rattle.line.proofs.Turn.Sends.{went-bounds}
 use borrow.Author.Needs.{needs}
 use Rattle.line.proofs.traffic.deliver.Statement.{statement}
 use Rattle.line.proofs.traffic.deliver.Tie as tie
-use Rattle.line.proofs.Turn.Sends.{went-bounds}
-use native.Mathlib.Omega.{arith}
 
 row-at-requires : tie.Need-row-at-requires
 row-at-requires c κs = let a = c .before .before in shape-within _ (a .pre .0) _ (a .pre .1 .0)

@@ -25,7 +25,7 @@ lies c =
     walked-lies _ _ _ (c .before .before .row-start .ensures) (shape-within _ (a .pre .0) _ (a .pre .1 .0)) _ (c .row-end .ensures)
 
 stamp-requires : tie.Need-stamp-requires
-stamp-requires c κs = (row-sized _ _ _ (c .before .row-end .ensures) .0, c .before .before .before .before .before .before .before .before .pre .1 .1)
+stamp-requires c κs = (row-sized _ _ _ (c .before .row-end .ensures) .0, search needs)
 
 row-at-requires : tie.Need-row-at-requires
 row-at-requires c κs =
