@@ -4,3 +4,4 @@ pub mod ById
 pub mod Runs
 pub mod Lapping
 pub mod Theorems
+pub mod Shuffled

@@ -6,6 +6,7 @@ pub mod Shows
 pub mod Follow
 pub mod InRows
 pub mod Ended
+pub mod Between
 pub mod History
 pub mod Told
 pub mod Back

@@ -4,73 +4,50 @@ use mathlib.Core.Path.{_≡_}
 use mathlib.Core.Bool.{true}
 use mathlib.Core.List.{List, [], _∷_, map}
 use Prim.Native.Nat.{ℕ, zero, suc, _+_, _*_, _≤_, _<_}
+use lib.Dec.{eqb}
 use lib.ListN.{length}
 use Rattle.bits.specs.Words.{pick}
 use Rattle.line.specs.declared.step.Answer.{Answer}
 use Rattle.line.specs.declared.step.Answer.the-variants.{Recovered, Passed}
 use Rattle.table.specs.Folds.{some}
 use Rattle.table.specs.Network.{Bytes, rows, phase, holder, LOST, TAKEN, isNode, shape, SameNodes}
-use Rattle.table.specs.Calls.{netAfterRead, netAfterWrite, netAfterReset}
-use Rattle.line.specs.Step.{highest, step}
+use Rattle.line.specs.Step.{highest, answerNumber}
 use Rattle.desk.specs.declared.laps.Taker.{Taker}
 use Rattle.desk.specs.Lap.{nodes, invitations, takers}
+use Rattle.desk.specs.Host.{Call, Read, Write, Reset, Timer, Interrupt, Data, DataNumber, Step, Lap, Reply, Number, Register, Line, Stretch, Stepped, Takers, replied, called, table, replyNumber}
 
--- "with no line fault, timer expiry, loading or fresh call": a fault-free step, a register read (row, register), a register write (row, register,
--- value), a hardware reset of a row, and whatever changes nothing: a page reader, an interrupt, every call that is refused
-pub data Call : Type 0 where
-  Step : Call
-  Read : ℕ → ℕ → Call
-  Write : ℕ → ℕ → ℕ → Call
-  Reset : ℕ → Call
-  Look : Call
-
--- "each call given the table as the last one left it"
-abbrev pub called : Call → List ℕ → List ℕ
-called Step net = step net 0 .after
-called (Read k g) net = netAfterRead net k g
-called (Write k g v) net = netAfterWrite net k g v
-called (Reset k) net = netAfterReset net k
-called Look net = net
-
-unfoldable pub table : List Call → List ℕ → List ℕ
-table [] net = net
-table (c ∷ l) net = table l (called c net)
-
--- how many of the calls are steps, and what those answer
-abbrev pub counted : Call → ℕ → ℕ
-counted Step n = suc n
-counted (Read k g) n = n
-counted (Write k g v) n = n
-counted (Reset k) n = n
-counted Look n = n
-
-unfoldable pub steps : List Call → ℕ
-steps [] = 0
-steps (c ∷ l) = counted c (steps l)
-
-abbrev pub told : Call → List ℕ → List Answer → List Answer
-told Step net l = step net 0 .answer ∷ l
-told (Read k g) net l = l
-told (Write k g v) net l = l
-told (Reset k) net l = l
-told Look net l = l
-
-unfoldable pub answersOf : List Call → List ℕ → List Answer
-answersOf [] net = []
-answersOf (c ∷ l) net = told c net (answersOf l (called c net))
-
--- what is written is a byte
-abbrev pub Byte : Call → Type 0
-Byte Step = Unit {0}
-Byte (Read k g) = Unit {0}
-Byte (Write k g v) = v < 256
-Byte (Reset k) = Unit {0}
-Byte Look = Unit {0}
+-- "with no line fault, timer expiry, loading or fresh call": what may come between, where it is not refused
+abbrev pub Between : Call → Type 0
+Between (Read k g) = Unit {0}
+Between (Write k g v _) = Unit {0}
+Between (Reset k) = Unit {0}
+Between (Timer k) = ⊥
+Between (Interrupt k) = Unit {0}
+Between (Data k p) = Unit {0}
+Between (DataNumber k p) = Unit {0}
+Between (Step fault) = fault ≡ 0
+Between (Lap room) = ⊥
 
 -- "the same nodes on line throughout": after each call the rows on line are those of the start, each with its ID
 unfoldable pub Throughout : List ℕ → List Call → List ℕ → Type 0
 Throughout start [] net = Unit {0}
-Throughout start (c ∷ l) net = Byte c × (SameNodes start (called c net) × Throughout start l (called c net))
+Throughout start (c ∷ l) net = (replyNumber (replied c net) ≡ 0 → Between c) × (SameNodes start (called c net) × Throughout start l (called c net))
+
+-- what the steps answer that are not refused, and how many they are
+abbrev pub withStep : Reply → List Answer → List Answer
+withStep (Number n) l = l
+withStep (Register r) l = l
+withStep (Line i) l = l
+withStep (Stretch s) l = l
+withStep (Stepped a) l = pick (eqb (answerNumber a) 0) (a ∷ l) l
+withStep (Takers d t) l = l
+
+unfoldable pub answersOf : List Call → List ℕ → List Answer
+answersOf [] net = []
+answersOf (c ∷ l) net = withStep (replied c net) (answersOf l (called c net))
+
+abbrev pub steps : List Call → List ℕ → ℕ
+steps l net = length (answersOf l net)
 
 -- the IDs on line, lowest first: among the k IDs from a on
 unfoldable pub idsFrom : List ℕ → ℕ → ℕ → List ℕ
@@ -127,6 +104,6 @@ pub record Ready (net : List ℕ) : Type 0 where
 abbrev pub Demand3 : Type 0
 Demand3 =
     (net : List ℕ) → Ready net → (l : List Call) → Throughout net l net
-    → (steps l ≡ 256 + 2 * nodes net → FirstLapOf net (answersOf l net) (256 + nodes net) (table l net))
-    × ((m : ℕ) → steps l ≡ 256 + 2 * nodes net + m * (2 * nodes net) → (l′ : List Call) → Throughout net l′ (table l net) → steps l′ ≡ 2 * nodes net
-    → LapOf net (answersOf l′ (table l net)) (nodes net) (table l′ (table l net)))
+    → (steps l net ≡ 256 + 2 * nodes net → FirstLapOf net (answersOf l net) (256 + nodes net) (table l net))
+    × ((m : ℕ) → steps l net ≡ 256 + 2 * nodes net + m * (2 * nodes net) → (l′ : List Call) → Throughout net l′ (table l net)
+    → steps l′ (table l net) ≡ 2 * nodes net → LapOf net (answersOf l′ (table l net)) (nodes net) (table l′ (table l net)))

@@ -1,4 +1,6 @@
 pub mod Order
 pub mod Load
 pub mod Lap
+pub mod Host
 pub mod Demand
+pub mod Shuffle

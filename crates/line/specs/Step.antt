@@ -81,3 +81,13 @@ answerValue (Passed r) = r
 answerValue (Unanswered i) = i
 answerValue TokenLost = 0
 answerValue (Held o) = 0
+
+-- C-24, "the same answers with rows renamed": the row that an answer names; the ID stays
+abbrev pub renamed : (ℕ → ℕ) → Answer → Answer
+renamed to (Refused n) = Refused n
+renamed to Quiet = Quiet
+renamed to (Recovered r) = Recovered (to r)
+renamed to (Passed r) = Passed (to r)
+renamed to (Unanswered i) = Unanswered i
+renamed to TokenLost = TokenLost
+renamed to (Held o) = Held o

@@ -29,8 +29,8 @@ lap-call net bytes room z =
     let r : Ready net = record { bytes = bytes; fits = s; lost = l; two = t } in
     let k = lapSteps net in
     let made = lap-steps net s b l t in
-    let first = demand3 net r (stepCalls k []) (throughout-only k net a) .0 (count-only k net ∙ made) in
-    let lap : FirstLapOf net (answers k net) (256 + nodes net) (after k net) = rw (answers-steps k net, table-only k net) at first in
+    let first = demand3 net r (stepCalls k []) (throughout-only k net a) .0 (count-only k net a ∙ made) in
+    let lap : FirstLapOf net (answers k net) (256 + nodes net) (after k net) = rw (answers-steps net k net a, table-only k net a) at first in
     record {
       lap = rw (done-total net room z, lap .lap .invited, done-leaves net room z) lap;
       total = done-total net room z ∙ lap .lap .invited;
@@ -42,5 +42,5 @@ lap-call net bytes room z =
       first = rw (done-leaves net room z) (lap-holder net s b l t);
       later = rw (done-leaves net room z) (λ h u m e h′ u′ e′.
           rw (table-steps h k net) at
-          (demand3 net r (stepCalls k h) (throughout-steps h net k net a u) .1 m (omega (arith, count-steps h k, made, e)) h′ (rw (table-steps h k net) u′) e′));
+          (demand3 net r (stepCalls k h) (throughout-steps h net k net a u) .1 m (omega (arith, count-steps h net k net a, made, e)) h′ (rw (table-steps h k net) u′) (rw (table-steps h k net) e′)));
     }

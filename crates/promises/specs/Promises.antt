@@ -24,7 +24,8 @@ use Rattle.desk.specs.declared.laps.Taker.{Taker}
 use Rattle.desk.specs.Order.{records, orderFits, idAt}
 use Rattle.desk.specs.Load.{roomRefusals, loadNumber, netAfterLoad}
 use Rattle.desk.specs.Lap.{nodes, after, answers, takers, lapSteps, lapRefusals, lapNumber, lapped, netAfterLap, lapTakers, listAfterLap}
-use Rattle.desk.specs.Demand.{Call, table, steps, answersOf, Throughout, LapOf, FirstLapOf}
+use Rattle.desk.specs.Host.{Call, table}
+use Rattle.desk.specs.Demand.{steps, answersOf, Throughout, LapOf, FirstLapOf}
 use Rattle.promises.specs.OfBits.{OfBits}
 use Rattle.promises.specs.OfTold.{OfTold}
 use Rattle.promises.specs.OfQueues.{OfQueues}
@@ -163,8 +164,8 @@ pub record TheLap (net : List ℕ) (room : ℕ) : Type 0 where
   pub taken : phase (netAfterLap net room) ≡ TAKEN
   pub first : holder (netAfterLap net room) ≡ highest net
   -- "every later lap takes exactly n": whatever calls come after it, as in demand 3, with any number m of laps among them
-  pub later : (l : List Call) → Throughout net l (netAfterLap net room) → (m : ℕ) → steps l ≡ m * (2 * nodes net)
-      → (l′ : List Call) → Throughout net l′ (table l (netAfterLap net room)) → steps l′ ≡ 2 * nodes net
+  pub later : (l : List Call) → Throughout net l (netAfterLap net room) → (m : ℕ) → steps l (netAfterLap net room) ≡ m * (2 * nodes net)
+      → (l′ : List Call) → Throughout net l′ (table l (netAfterLap net room)) → steps l′ (table l (netAfterLap net room)) ≡ 2 * nodes net
       → LapOf net (answersOf l′ (table l (netAfterLap net room))) (nodes net) (table l′ (table l (netAfterLap net room)))
 
 abbrev pub LapCallIsTheLap : Type 0

@@ -4,6 +4,7 @@ pub mod Settled
 pub mod Fresh
 pub mod ShapeSettled
 pub mod ShapeCalls
+pub mod RamsKept
 pub mod Beside
 pub mod Writes
 pub mod Calm

@@ -150,3 +150,8 @@ pub seek-same : (f g : ℕ → Bool) (n : ℕ) → ((j : ℕ) → j < n → f j 
 unfolding seek
 seek-same f g zero e = refl
 seek-same f g (suc n) e = rw (seek-same f g n (λ j l. e j (omega arith)), e n (omega arith))
+
+pub some-same : (f g : ℕ → Bool) (n : ℕ) → ((j : ℕ) → j < n → f j ≡ g j) → some f n ≡ some g n
+unfolding some
+some-same f g zero e = refl
+some-same f g (suc n) e = rw (some-same f g n (λ j l. e j (omega arith)), e n (omega arith))

@@ -3,3 +3,4 @@ pub mod Rows
 pub mod Online
 pub mod Shaped
 pub mod Access
+pub mod Shuffled

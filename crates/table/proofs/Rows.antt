@@ -2,7 +2,6 @@
 pub mod View
 pub mod Starts
 pub mod WithRows
-pub mod Order
 pub mod Passes
 pub mod Walks
 pub mod Networks

@@ -97,3 +97,8 @@ pick-of P false p q = q refl
 pub pick-both : {A B : Type 0} (P : A → B → Type 0) {x y : A} {u v : B} (b : Bool) → P x u → P y v → P (pick b x y) (pick b u v)
 pick-both P true p q = p
 pick-both P false p q = q
+
+-- and where which choice it was matters
+pub pick-each : {A B : Type 0} (P : A → B → Type 0) {x y : A} {u v : B} (b : Bool) → (b ≡ true → P x u) → (b ≡ false → P y v) → P (pick b x y) (pick b u v)
+pick-each P true p q = p refl
+pick-each P false p q = q refl

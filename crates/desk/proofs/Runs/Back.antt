@@ -13,12 +13,13 @@ use Rattle.table.specs.Network.{rows, phase, holder, LOST, TAKEN, regsAt, isNod
 use Rattle.line.specs.Step.{step, highest, answerValue}
 use Rattle.table.proofs.Folds.{seek-is, some-not}
 use Rattle.table.proofs.Shaped.Shapes.{OnLineRow as IsHeld, shape-ids}
+use Rattle.table.proofs.Online.Highest.{top-above}
 use Rattle.table.proofs.Online.Nodes.{node-online, node-id, nodeOf-found, online-id}
 use Rattle.line.proofs.Steps.Holders.{highest-held}
 use Rattle.desk.specs.Lap.{nodes, after, answers, passed, firstHolder, back, lapSteps}
 use Rattle.line.proofs.Steps.View.{Rams, AfterLost, lost-step}
 use Rattle.desk.proofs.ById.Ring.{Telling, Took, Spoke, roster}
-use Rattle.desk.proofs.Runs.Count.{Ids, some-online, roster-online, top-above}
+use Rattle.desk.proofs.Runs.Count.{Ids, some-online, roster-online}
 use Rattle.desk.proofs.ById.FirstLap.{other, before, Lap, lap, never-before, lap-counts}
 use Rattle.desk.proofs.Runs.Steps.{after-none, after-first, after-more, answers-first, answers-more, seen}
 use Rattle.desk.proofs.Runs.Told.{never-at, not-to, took-passed}

@@ -1,21 +1,21 @@
--- The IDs on line, and how many: the roster has an ID for each on-line row; the highest ID is on line.
+-- The IDs on line, and how many: the roster has an ID for each on-line row.
 -- Assumes nothing.
 use mathlib.Core.Path.{_≡_, refl, sym, ap, _∙_, fun-ext}
 use mathlib.Core.Logic.{_≢_, ⊎-elim}
-use mathlib.Core.Bool.{Bool, true, false, cond, _&&_, _||_}
+use mathlib.Core.Bool.{Bool, true, false, cond, _||_}
 use mathlib.Core.List.{List, _∷_}
 use Prim.Native.Nat.{ℕ, zero, suc, _+_, _%_, _<_, _≤_}
 use native.Mathlib.Numerals.{add-one}
 use native.Mathlib.Omega.{arith}
 use lib.ListN.{length}
-use lib.Dec.{eqb, ltb}
-use borrow.Author.Tests.{eqb-true, eqb-false, ltb-true, ltb-false}
+use lib.Dec.{eqb}
+use borrow.Author.Tests.{eqb-true, eqb-false}
 use Rattle.bits.specs.Words.{pick}
-use Rattle.bits.proofs.Words.Bools.{cases, and-right, or-false, or-true, pick-of}
+use Rattle.bits.proofs.Words.Bools.{cases, or-false, or-true, pick-of}
 use Rattle.table.specs.Folds.{some}
-use Rattle.table.specs.Network.{regsAt, onLineAt, isNode, topId}
+use Rattle.table.specs.Network.{regsAt, onLineAt, isNode}
 use Rattle.table.proofs.Folds.{clash, some-none, some-more, some-not}
-use Rattle.table.proofs.Online.Nodes.{topId-more, node-of, node-online, node-id}
+use Rattle.table.proofs.Online.Nodes.{node-of, node-online, node-id}
 use Rattle.desk.specs.Lap.{online}
 use Rattle.desk.proofs.ById.Ring.{calls, roster}
 use Rattle.desk.proofs.ById.Roster.{calls-none}
@@ -86,26 +86,6 @@ roster-online net (suc k) i =
     (λ o. one-more (onFirst net (suc k)) (onFirst net k) (regsAt net k .id) (on-here net k o) (alone net k i o) (on-other net k) 256 0
     (omega arith) (omega (arith, i .byte k (omega arith))) (omega arith) ∙ ap suc ih)
     (λ o. ap (λ (f : ℕ → Bool). length (calls f 0 256)) (off-same net k o) ∙ ih)
-
--- ---- the highest ID
-pub top-above : (net : List ℕ) (n j : ℕ) → j < n → onLineAt net j ≡ true → regsAt net j .id ≤ topId net n
-top-above net zero j l o = absurd (omega arith)
-top-above net (suc k) j l o =
-    let ih : j < k → regsAt net j .id ≤ topId net k = λ m. top-above net k j m o in
-    let e : topId net (suc k) ≡ pick (onLineAt net k && ltb (topId net k) (regsAt net k .id)) (regsAt net k .id) (topId net k)
-    = rw (← add-one k) (topId-more net k) in
-    rw e (at (ltb j k) refl ih)
-  where
-    at : (b : Bool) → ltb j k ≡ b → (j < k → regsAt net j .id ≤ topId net k)
-        → regsAt net j .id ≤ pick (onLineAt net k && ltb (topId net k) (regsAt net k .id)) (regsAt net k .id) (topId net k)
-    at true b ih =
-        let m = ih (ltb-true j k b) in
-        pick-of (λ (x : ℕ). regsAt net j .id ≤ x) (onLineAt net k && ltb (topId net k) (regsAt net k .id))
-        (λ t. omega (arith, m, ltb-true (topId net k) (regsAt net k .id) (and-right (onLineAt net k) (ltb (topId net k) (regsAt net k .id)) t))) (λ _. m)
-    at false b ih =
-        let e : j ≡ k = omega (arith, ltb-false j k b, l) in
-        rw (rw e at o) (rw e (pick-of (λ (x : ℕ). regsAt net k .id ≤ x) (ltb (topId net k) (regsAt net k .id)) (λ _. omega arith)
-        (λ t. omega (arith, ltb-false (topId net k) (regsAt net k .id) t))))
 
 -- ---- the count
 pub online-none : (net : List ℕ) → online net 0 ≡ 0

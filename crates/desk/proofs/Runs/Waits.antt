@@ -15,15 +15,18 @@ use Rattle.table.proofs.Online.Nodes.{node-id, nodeOf-found}
 use Rattle.line.proofs.Steps.Holders.{highest-held}
 use Rattle.line.proofs.Steps.View.{Rams, alike-same, lost-step}
 use Rattle.desk.specs.Lap.{nodes, passed}
-use Rattle.desk.specs.Demand.{Call, Step, Read, Write, Reset, Look, table, steps, answersOf, Throughout, From}
-use Rattle.table.proofs.Access.Calm.{Calm, calm-read, calm-write, calm-reset, alike-nodes, same-nodes-then}
+use Rattle.desk.specs.Host.{Call, called}
+use Rattle.desk.specs.Demand.{answersOf, steps, Throughout, From}
+use Rattle.table.proofs.Access.Calm.{Calm, alike-nodes, same-nodes-then}
 use Rattle.desk.proofs.ById.Ring as ring
 use Rattle.desk.proofs.ById.Ring.{Spoke, Ring, Runs}
-use Rattle.desk.proofs.Runs.Count.{top-above}
+use Rattle.table.proofs.Online.Highest.{top-above}
+use Rattle.line.proofs.Steps.StepIs.{step-done}
 use Rattle.desk.proofs.Runs.Steps.{seen}
 use Rattle.desk.proofs.Runs.Shows.{on, Shows}
 use Rattle.desk.proofs.Runs.Back as back
-use Rattle.desk.proofs.Runs.History.{nodes-between, Went, went}
+use Rattle.desk.proofs.Runs.Between.{Comes, stepping, calmly, comes}
+use Rattle.desk.proofs.Runs.History.{nodes-between, Went, went-calmly, went-step, count-step, went}
 
 module _ (start : List ℕ) (s : shape start ≡ true) (b : Rams start) (lost : phase start ≡ LOST) (two : 2 ≤ nodes start) where
   pub record Waits (now : List ℕ) : Type 0 where
@@ -112,27 +115,30 @@ module _ (start : List ℕ) (s : shape start ≡ true) (b : Rams start) (lost : 
   abbrev pub beginning : Ring
   beginning = record { taken = false; holder = highestId; nid = λ y. y }
 
-  pub waits-went : (l : List Call) {t : Ring} {m : List ring.Telling} → Runs (on start s) beginning m t → steps l ≡ suc (length m) → (now : List ℕ) → Waits now
+  -- one call more
+  module _ (l : List Call) {t : Ring} {m : List ring.Telling} (r : Runs (on start s) beginning m t) where
+    abbrev pub Lapped : List Call → List ℕ → Type 0
+    Lapped l now = Went start s now l (Spoke ∷ m) t × From (Recovered (highest start)) (answersOf l now)
+
+    onward : (now : List ℕ) {c : Call} → Comes now c → steps (c ∷ l) now ≡ suc (length m) → Waits now → Throughout start l (called c now)
+        → (steps l (called c now) ≡ suc (length m) → Waits (called c now) → Lapped l (called c now)) → Lapped (c ∷ l) now
+    unfolding answersOf
+    onward now stepping e w h rest =
+        let f = w .fits in (
+          went-step start s now f l Spoke (recovers now w) (untold now w) (went start s l r (step now 0 .after) (suc-inj (sym (count-step start s now f l) ∙ e)) (begins now w) h),
+          rw (step-done now f) (recovered now w),
+        )
+    onward now (calmly k silent) e w h rest =
+        let v = rest (ap length (sym (silent _)) ∙ e) (still-waits now _ w k) in
+        (went-calmly start s now _ l silent (v .0), rw silent (v .1))
+
+  pub waits-went : (l : List Call) {t : Ring} {m : List ring.Telling} → Runs (on start s) beginning m t → (now : List ℕ) → steps l now ≡ suc (length m) → Waits now
       → Throughout start l now → Went start s now l (Spoke ∷ m) t × From (Recovered (highest start)) (answersOf l now)
-  unfolding table steps answersOf Throughout
-  waits-went [] r e now w h = absurd (omega arith)
-  waits-went (Step ∷ l) r e now w h =
-      let v = went start s l r (suc-inj e) (step now 0 .after) (begins now w) (h .1 .1) in
-      (record { told = rw (recovers now w) (ap (Spoke ∷_) (v .told)); to-nodes = (untold now w, v .to-nodes); shows = v .shows }, recovered now w)
-  waits-went (Read k g ∷ l) r e now w h =
-      let v = waits-went l r e _ (still-waits now _ w (calm-read now (w .fits) (w .rams) k g)) (h .1 .1) in
-      (record { told = v .0 .told; to-nodes = v .0 .to-nodes; shows = v .0 .shows }, v .1)
-  waits-went (Write k g x ∷ l) r e now w h =
-      let c = calm-write now (w .fits) (w .rams) k g x (h .0) (nodes-between start now _ (w .nodes-same) (h .1 .0)) in
-      let v = waits-went l r e _ (still-waits now _ w c) (h .1 .1) in
-      (record { told = v .0 .told; to-nodes = v .0 .to-nodes; shows = v .0 .shows }, v .1)
-  waits-went (Reset k ∷ l) r e now w h =
-      let c = calm-reset now (w .fits) (w .rams) k (nodes-between start now _ (w .nodes-same) (h .1 .0)) in
-      let v = waits-went l r e _ (still-waits now _ w c) (h .1 .1) in
-      (record { told = v .0 .told; to-nodes = v .0 .to-nodes; shows = v .0 .shows }, v .1)
-  waits-went (Look ∷ l) r e now w h =
-      let v = waits-went l r e now w (h .1 .1) in
-      (record { told = v .0 .told; to-nodes = v .0 .to-nodes; shows = v .0 .shows }, v .1)
+  unfolding answersOf Throughout
+  waits-went [] r now e w h = absurd (omega arith)
+  waits-went (c ∷ l) r now e w h =
+      onward l r now (comes now (w .fits) (w .rams) c (h .0) (nodes-between start now _ (w .nodes-same) (h .1 .0))) e w (h .1 .1)
+      (λ e′ w′. waits-went l r (called c now) e′ w′ (h .1 .1))
 
   pub waits : Waits start
   waits = record { fits = s; rams = b; nodes-same = alike-nodes (alike-same start s b); lost-still = lost }

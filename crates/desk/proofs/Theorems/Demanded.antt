@@ -14,7 +14,8 @@ use Rattle.table.proofs.Shaped.Alike.{bytes-rams}
 use Rattle.line.proofs.Steps.View.{Rams}
 use Rattle.desk.specs.declared.laps.Taker.{Taker}
 use Rattle.desk.specs.Lap.{nodes, takers}
-use Rattle.desk.specs.Demand.{Call, table, steps, answersOf, Throughout, idsFrom, idsOnLine, LapOf, FirstLapOf, Demand3}
+use Rattle.desk.specs.Host.{Call, table}
+use Rattle.desk.specs.Demand.{steps, answersOf, Throughout, idsFrom, idsOnLine, LapOf, FirstLapOf, Demand3}
 use Rattle.desk.proofs.ById.Ring as ring
 use Rattle.desk.proofs.ById.Ring.{Took, Spoke, Ring, Runs, stop, go, calls, roster}
 use Rattle.desk.proofs.ById.Roster.{takes, invites}
@@ -110,19 +111,19 @@ module _ (start : List ℕ) (s : shape start ≡ true) (b : Rams start) (lost : 
       }
 
   -- after the first lap and m more
-  settles : (m : ℕ) (l : List Call) → steps l ≡ 256 + 2 * nodes start + m * (2 * nodes start) → Throughout start l start
+  settles : (m : ℕ) (l : List Call) → steps l start ≡ 256 + 2 * nodes start + m * (2 * nodes start) → Throughout start l start
       → Went start s start l (Spoke ∷ (firstWay ++ times m (settled ids))) home
   settles m l e h =
-      waits-went start s b lost two l (join first (round next m))
-      (e ∙ rw (length-append, length-append) (omega (arith, long m, back.size start s b lost two))) start (waits start s b lost two) h .0
+      waits-went start s b lost two l (join first (round next m)) start
+      (e ∙ rw (length-append, length-append) (omega (arith, long m, back.size start s b lost two))) (waits start s b lost two) h .0
 
-  first-lap : (l : List Call) → steps l ≡ 256 + 2 * nodes start → Throughout start l start → FirstLapOf start (answersOf l start) (256 + nodes start) (table l start)
+  first-lap : (l : List Call) → steps l start ≡ 256 + 2 * nodes start → Throughout start l start → FirstLapOf start (answersOf l start) (256 + nodes start) (table l start)
   first-lap l e h =
       let sm = back.small start s b lost two in
       let li = back.live start s b lost two in
       let to = back.top start s b lost two in
       let ma = back.many start s b lost two in
-      let v = waits-went start s b lost two l first (e ∙ rw length-append (omega (arith, back.size start s b lost two))) start (waits start s b lost two) h in
+      let v = waits-went start s b lost two l first start (e ∙ rw length-append (omega (arith, back.size start s b lost two))) (waits start s b lost two) h in
       record {
         from = v .1;
         lap = lap-of start l (Spoke ∷ firstWay) (v .0) (lap-takes (on start s) (highestId start s b lost two) sm li to ma (λ y. y) (λ y o. refl))
@@ -130,12 +131,12 @@ module _ (start : List ℕ) (s : shape start ≡ true) (b : Rams start) (lost : 
             (lap-counts (on start s) (highestId start s b lost two) sm li to ma (λ y. y) (λ y o. refl) .0 ∙ rw (back.roster-nodes start s b lost two));
       }
 
-  later-lap : (l : List Call) → Throughout start l start → (m : ℕ) → steps l ≡ 256 + 2 * nodes start + m * (2 * nodes start)
-      → (l′ : List Call) → Throughout start l′ (table l start) → steps l′ ≡ 2 * nodes start → LapOf start (answersOf l′ (table l start)) (nodes start) (table l′ (table l start))
+  later-lap : (l : List Call) → Throughout start l start → (m : ℕ) → steps l start ≡ 256 + 2 * nodes start + m * (2 * nodes start)
+      → (l′ : List Call) → Throughout start l′ (table l start) → steps l′ (table l start) ≡ 2 * nodes start → LapOf start (answersOf l′ (table l start)) (nodes start) (table l′ (table l start))
   later-lap l h m e l′ h′ e′ =
       let c = settled-counts ids in
       let n = back.roster-nodes start s b lost two in
-      let v = went start s l′ next (e′ ∙ omega (arith, c .1, n)) (table l start) (settles m l e h .shows) h′ in
+      let v = went start s l′ next (table l start) (e′ ∙ omega (arith, c .1, n)) (settles m l e h .shows) h′ in
       let k =
       settled-closes (on start s) (highestId start s b lost two) (back.small start s b lost two) (back.live start s b lost two) (back.top start s b lost two) (back.many start s b lost two) (λ y. y)
       (λ y o. refl) in

@@ -25,8 +25,7 @@ use Rattle.table.specs.Rows.{rowAt, setRow, eachRow}
 use Rattle.table.specs.Network.{rows, holder, onRegs, regsAt, shape}
 use Rattle.line.specs.Traffic.{onRow, happens, happened, carried}
 use Rattle.table.proofs.Rows.Starts.{Frame}
-use Rattle.table.proofs.Rows.WithRows.{rowAt-setRow, rowAt-setRow-other, setRow-frame}
-use Rattle.table.proofs.Rows.Order.{each-row, each-frame}
+use Rattle.table.proofs.Rows.WithRows.{rowAt-setRow, rowAt-setRow-other, setRow-frame, each-row, each-frame}
 use Rattle.table.proofs.Shaped.Shapes.{shape-room, shape-row, shape-row-whole}
 use Rattle.table.proofs.Shaped.Kept.{Became}
 use Rattle.table.proofs.Shaped.Became.{Moved, Still, still-same, still-regs, became-rows, shape-moved}
@@ -87,6 +86,9 @@ pub record Made (h : ℕ) (net : List ℕ) (c : Change) : Type 0 where
 module _ (net : List ℕ) (h : ℕ) (s : shape net ≡ true) (l : h < rows net) where
   fine-row : (c : Change) → Sane c → (j : ℕ) → j < rows net → Fine (rowAt net j) (keepsNid c) (rowDone h c j (rowAt net j))
   fine-row c a j b = fine (rowAt net j) (shape-row-whole net s j b) (shape-row net s j b) h c a j
+
+  pub size-done : (c : Change) → Sane c → (j : ℕ) → j < rows net → SameSize (rowAt net j) (rowDone h c j (rowAt net j))
+  size-done c a j b = fine-row c a j b .size
 
   -- row h is given other bytes
   made-set : (c : Change) → Sane c → (f : List ℕ → List ℕ) → ((j : ℕ) (r : List ℕ) → rowDone h c j r ≡ pick (eqb j h) (f r) r)

@@ -15,8 +15,9 @@ use Rattle.registers.specs.Events.{risenNid}
 use Rattle.bits.proofs.Words.Bools.{pick-of}
 use Rattle.table.specs.Network.{rows, phase, holder, LOST, PASS, TAKEN, turned, topId, shape}
 use Rattle.line.specs.Traffic.{Turn, onRow, happened, takenTurn}
-use Rattle.line.specs.Step.{highest, lostTurn, invited, taker, passTurn, held, stepTurn, stepRefusals, stepNumber, step, answerValue}
+use Rattle.line.specs.Step.{highest, lostTurn, invited, taker, passTurn, held, stepTurn, stepRefusals, stepNumber, step, answerNumber, answerValue}
 use Rattle.table.proofs.Folds.{clash}
+use Rattle.line.proofs.Steps.Stepped.{answer-number}
 
 -- every other row hears the invitation
 abbrev pub invitation : List ℕ → List ℕ
@@ -27,6 +28,9 @@ module _ (net : List ℕ) (s : shape net ≡ true) where
   number-is : stepNumber net 0 ≡ 0
   unfolding stepNumber stepRefusals
   number-is = rw (refuse-passed DONE SHAPE (not (shape net)) (ap not s), refuse-passed DONE VALUE false refl)
+
+  pub step-done : answerNumber (step net 0 .answer) ≡ 0
+  step-done = answer-number net 0 ∙ number-is
 
   pub step-is : step net 0 ≡ stepTurn net 0
   unfolding step

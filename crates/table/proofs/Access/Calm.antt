@@ -19,9 +19,8 @@ use Rattle.card.proofs.Rows.Sizes.{SameSize, whole-registers}
 use Rattle.card.proofs.Rows.Bytes.{size-put, regs-put}
 use Rattle.registers.proofs.Values.SameCard.{on-line-same, same-burst}
 use Rattle.card.proofs.Rows.WellFormed.{size-read, size-write}
-use Rattle.card.proofs.Rows.Rams.{ram-put}
-use Rattle.registers.proofs.Values.SameCard.{reset-id, write-nid, write-id-byte}
-use Rattle.card.proofs.Rows.Touched.{same-row, ram-read, ram-write}
+use Rattle.registers.proofs.Values.SameCard.{write-nid}
+use Rattle.card.proofs.Rows.Touched.{same-row, ram-read}
 use Rattle.table.specs.Rows.{rowStart, rowAt, setRow}
 use Rattle.table.specs.Network.{rows, LOST, turned, onRegs, regsAt, onLineAt, shape, SameNodes}
 use Rattle.table.specs.Calls.{placeNumber, netReadNumber, netAfterRead, isHolder, settled, netWriteNumber, netAfterWrite, netAfterReset}
@@ -37,7 +36,8 @@ use Rattle.table.proofs.Shaped.Alike.{Rams}
 use Rattle.table.proofs.Access.Placed.{read-placed, write-placed, row-there}
 use Rattle.table.proofs.Shaped.KeptRows.{kept-read, reset-off, regs-write}
 use Rattle.table.proofs.Access.ShapeCalls.{shape-write, shape-reset}
-use Rattle.table.proofs.Online.SameNodes.{CalmRow, calm-still, calm-rows, calm-row-same}
+use Rattle.table.proofs.Access.RamsKept.{rams-write, rams-reset}
+use Rattle.table.proofs.Online.SameNodes.{SameNid, calm-still, calm-rows}
 pub use Rattle.table.proofs.Online.SameNodes.{same-nodes-then, alike-nodes, Calm, calm-same}
 
 -- ---- a row that is on line as it was before the call has nothing to settle
@@ -60,13 +60,13 @@ module _ (net : List ℕ) (k : ℕ) (h : rowStart net (suc k) ≤ length net) wh
       (λ u o. absurd (clash (o ∙ and-left was (isHolder net k) u) (online-same net (turned net LOST 0) k (rowAt-turned net LOST 0 k) ∙ t))) (λ _ _. refl))
 
 module _ (net : List ℕ) (s : shape net ≡ true) (b : Rams net) (k : ℕ) where
-  module _ (l : k < rows net) (r : List ℕ) (e : SameSize (rowAt net k) r) (q : CalmRow (rowAt net k) r) where
-    calm-settled : shape (settled (setRow net k r) k (onLineAt net k)) ≡ true → SameNodes net (settled (setRow net k r) k (onLineAt net k))
-        → Calm net (settled (setRow net k r) k (onLineAt net k))
-    calm-settled f n =
+  module _ (l : k < rows net) (r : List ℕ) (e : SameSize (rowAt net k) r) (q : SameNid (rowAt net k) r) where
+    calm-settled : shape (settled (setRow net k r) k (onLineAt net k)) ≡ true → Rams (settled (setRow net k r) k (onLineAt net k))
+        → SameNodes net (settled (setRow net k r) k (onLineAt net k)) → Calm net (settled (setRow net k r) k (onLineAt net k))
+    calm-settled f m n =
         let h = shape-within net s k l in
         let same = settled-none (setRow net k r) k (frame-within (setRow-frame net (suc k) h k (omega arith) r e) h) (onLineAt net k) (n .online k l) in
-        calm-rows b (rw same (became-put net k r s l e q (λ j _. calm-row-same (rowAt net j)))) f n
+        calm-rows (rw same (became-put net k r s l e q (λ j _ o. refl))) f m n
 
   -- ---- the calls
   pub calm-read : (g : ℕ) → Calm net (netAfterRead net k g)
@@ -86,29 +86,19 @@ module _ (net : List ℕ) (s : shape net ≡ true) (b : Rams net) (k : ℕ) wher
   unfolding netAfterWrite
   calm-write g v h =
       let r = rowAt net k in
-      pick-of (λ (x : List ℕ). shape x ≡ true → SameNodes net x → Calm net x) (eqb (netWriteNumber net k g v) 0)
+      pick-of (λ (x : List ℕ). shape x ≡ true → Rams x → SameNodes net x → Calm net x) (eqb (netWriteNumber net k g v) 0)
       (λ z. let l = row-there net k (write-placed net k g v (eqb-true _ _ z)) .1 in
-      let w = shape-row-whole net s k l in
-      let e = regs-write r w g v in
       calm-settled l (rowAfterWrite r g v) (size-write r g v)
-      (record {
-        bytes = λ m. (ram-write r (m .0) g v h, rw e (write-id-byte (regsOf r) g v (m .1) h));
-        nid = λ _. ap (λ (x : Regs). x .nid) e ∙ write-nid (regsOf r) g v;
-      }))
-      (λ _ _ _. calm-same net s b)
-      (shape-write net s k g v)
+      (λ _. ap (λ (x : Regs). x .nid) (regs-write r (shape-row-whole net s k l) g v) ∙ write-nid (regsOf r) g v))
+      (λ _ _ _ _. calm-same net s b)
+      (shape-write net s k g v) (rams-write net s b k g v h)
 
   pub calm-reset : SameNodes net (netAfterReset net k) → Calm net (netAfterReset net k)
   unfolding netAfterReset
   calm-reset =
       let r = rowAt net k in
-      pick-of (λ (x : List ℕ). shape x ≡ true → SameNodes net x → Calm net x) (eqb (placeNumber net k) 0)
+      pick-of (λ (x : List ℕ). shape x ≡ true → Rams x → SameNodes net x → Calm net x) (eqb (placeNumber net k) 0)
       (λ z. let l = row-there net k (eqb-true _ _ z) .1 in
-      let w = shape-row-whole net s k l in
-      calm-settled l (rowAfterReset r) (size-put r hardwareReset)
-      (record {
-        bytes = λ m. (ram-put r (m .0) hardwareReset, rw (regs-put r hardwareReset (whole-registers r w)) reset-id);
-        nid = λ o. absurd (clash o (reset-off r w));
-      }))
-      (λ _ _ _. calm-same net s b)
-      (shape-reset net s k)
+      calm-settled l (rowAfterReset r) (size-put r hardwareReset) (λ o. absurd (clash o (reset-off r (shape-row-whole net s k l)))))
+      (λ _ _ _ _. calm-same net s b)
+      (shape-reset net s k) (rams-reset net s b k)

@@ -7,7 +7,6 @@ use Prim.Native.Nat.{ℕ, _<_}
 use native.Mathlib.Omega.{arith}
 use Rattle.card.specs.Row.{regsOf}
 use Rattle.registers.specs.Fit.{onLine}
-use Rattle.card.proofs.Pages.Packets.{Ram}
 use Rattle.table.specs.Network.{rows, phase, holder, regsAt, onLineAt, isNode, nodeOf, shape, SameNodes}
 use Rattle.table.proofs.Folds.{seek-same}
 use Rattle.table.proofs.Shaped.Kept.{Became}
@@ -62,21 +61,17 @@ calm-still net s b new c =
       nid = λ k l _. c .row k l .nid;
     }
 
--- ---- the row s in the place of the row r: with a RAM and an ID of bytes where r had them, and with r's NID if it is on line
-pub record CalmRow (r s : List ℕ) : Type 0 where
-  pub bytes : Ram r × (regsOf r .id < 256) → Ram s × (regsOf s .id < 256)
-  pub nid : onLine (regsOf s) ≡ true → regsOf s .nid ≡ regsOf r .nid
+-- ---- the row s in the place of the row r: with r's NID if it is on line
+abbrev pub SameNid : List ℕ → List ℕ → Type 0
+SameNid r s = onLine (regsOf s) ≡ true → regsOf s .nid ≡ regsOf r .nid
 
-pub calm-rows : {net new : List ℕ} → Rams net → Became CalmRow net new → shape new ≡ true → SameNodes net new → Calm net new
+pub calm-rows : {net new : List ℕ} → Became SameNid net new → shape new ≡ true → Rams new → SameNodes net new → Calm net new
 unfolding onLineAt
-calm-rows {net} {new} b c f n = record {
+calm-rows {net} {new} c f b n = record {
   fits = f;
-  rams = λ k l. let j : k < rows net = omega (arith, became-rows c) in c .row k j .bytes (b k j);
+  rams = b;
   nodes = n;
   phase-same = became-phase c;
   holder-same = became-holder c;
-  nid = λ k l o. c .row k l .nid (n .online k l ∙ o);
+  nid = λ k l o. c .row k l (n .online k l ∙ o);
 }
-
-pub calm-row-same : (r : List ℕ) → CalmRow r r
-calm-row-same r = record { bytes = λ b. b; nid = λ o. refl }

@@ -1,6 +1,6 @@
 -- What a well formed header says, part by part, and what makes one.
 -- Assumes nothing.
-use mathlib.Core.Path.{_≡_, refl, sym, _∙_, ap}
+use mathlib.Core.Path.{_≡_, sym, _∙_, ap}
 use mathlib.Core.Bool.{Bool, true, false, not, _&&_}
 use mathlib.Core.List.{List, [], _∷_}
 use Prim.Native.Nat.{ℕ, _+_, _≤_, _<_}
@@ -48,10 +48,10 @@ unfolding headerFits
 header-of net m n p z l =
     simp (eq-eqb _ _ (m .0), eq-eqb _ _ (m .1), eq-eqb _ _ (m .2), lt-ltb _ _ (n .0), le-leb _ _ (n .1), lt-ltb _ _ p, z, eq-eqb _ _ l)
 
--- a header that differs in its phase and its holder alone, where the rows end at the same place
-pub header-kept : (net new : List ℕ) → headerFits net ≡ true → length new ≡ length net → rowStart new (rows net) ≡ rowStart net (rows net)
+-- a header that differs in its phase and its holder alone, where nothing lies after the rows
+pub header-kept : (net new : List ℕ) → headerFits net ≡ true → length new ≡ rowStart new (rows net)
     → ((x : ℕ) → x < headerBytes → (x ≡ 4 → ⊥) → (x ≡ 5 → ⊥) → getD new x 0 ≡ getD net x 0) → phase new < 3 → headerFits new ≡ true
-header-kept net new t l w e p =
+header-kept net new t l e p =
     let m = header-marks net t in
     let n = header-rows net t in
     let r = e 3 (lit< tt) (λ q. omega arith) (λ q. omega arith) in
@@ -60,14 +60,16 @@ header-kept net new t l w e p =
       e 1 (lit< tt) (λ q. omega arith) (λ q. omega arith) ∙ m .1,
       e 2 (lit< tt) (λ q. omega arith) (λ q. omega arith) ∙ m .2,
     )
-    (omega arith, omega arith) p (ap zeros same ∙ header-zeros net t) (l ∙ header-length net t ∙ sym w ∙ ap (rowStart new) (sym r))
+    (omega arith, omega arith) p (ap zeros same ∙ header-zeros net t) (l ∙ ap (rowStart new) (sym r))
   where
     same : take 10 (drop 6 new) ≡ take 10 (drop 6 net)
     same =
-        let long : (s : List ℕ) → length s ≡ length net → length (take 10 (drop 6 s)) ≡ 10
-        = λ s q. length-take-le 10 (drop 6 s) (simp length-drop (omega (arith, header-length net t, start-least net (rows net)))) in
-        ext-getD 0 (take 10 (drop 6 new)) (take 10 (drop 6 net)) (long new l ∙ sym (long net refl))
-        (λ i b. let h : i < 10 = omega (arith, long new l) in
+        let long : (s : List ℕ) → headerBytes ≤ length s → length (take 10 (drop 6 s)) ≡ 10
+        = λ s q. length-take-le 10 (drop 6 s) (simp length-drop (omega arith)) in
+        let a = long new (omega (arith, start-least new (rows net))) in
+        let b = long net (omega (arith, header-length net t, start-least net (rows net))) in
+        ext-getD 0 (take 10 (drop 6 new)) (take 10 (drop 6 net)) (a ∙ sym b)
+        (λ i c. let h : i < 10 = omega (arith, a) in
         getD-take 10 (drop 6 new) i 0 h ∙ getD-drop 6 new i 0 ∙ e (6 + i) (omega arith) (λ q. omega arith) (λ q. omega arith)
         ∙ sym (getD-take 10 (drop 6 net) i 0 h ∙ getD-drop 6 net i 0))
 

@@ -1,15 +1,16 @@
 -- The network in another phase, with another holder: its header and its rows.
 -- Assumes nothing.
-use mathlib.Core.Path.{_≡_, _∙_, ap}
+use mathlib.Core.Path.{_≡_, sym, _∙_, ap}
 use mathlib.Core.List.{List}
 use Prim.Native.Nat.{ℕ, _≤_}
 use native.Mathlib.Omega.{arith}
 use lib.Dec.{lit<}
 use lib.ListN.{length, getD, set, drop, length-set}
-use lib.Seq.{getD-set-same, getD-set-other, drop-set-lt}
-use Rattle.table.specs.Rows.{headerBytes, rowStart, rowAt, setRow}
+use lib.Seq.{getD-set-same, getD-set-other, set-set, set-comm, drop-set-lt}
+use Rattle.table.specs.Rows.{headerBytes, rowStart, rowAt, setRow, withRows}
 use Rattle.table.specs.Network.{rows, phase, holder, turned}
 use Rattle.table.proofs.Rows.Starts.{start-body, rowAt-body, header-setRow}
+use Rattle.table.proofs.Rows.WithRows.{with-byte}
 
 module _ (net : List ℕ) (p h : ℕ) where
   pub length-turned : length (turned net p h) ≡ length net
@@ -47,3 +48,17 @@ unfolding turned
 turned-setRow net k r p h l =
     ap (λ (x : List ℕ). set x 5 h) (header-setRow net k r 4 p (lit< tt) l)
     ∙ header-setRow (set net 4 p) k r 5 h (lit< tt) (omega (arith, length-set net 4 p, start-body net (set net 4 p) (drop-set-lt headerBytes net 4 p (lit< tt)) k))
+
+-- with other rows
+pub turned-with : (net : List ℕ) (n : ℕ) → rowStart net n ≤ length net → (g : ℕ → List ℕ) (p h : ℕ) → withRows (turned net p h) n g ≡ turned (withRows net n g) p h
+unfolding turned
+turned-with net n l g p h =
+    with-byte (set net 4 p) n (omega (arith, length-set net 4 p, start-body net (set net 4 p) (drop-set-lt headerBytes net 4 p (lit< tt)) n)) g 5 h (lit< tt)
+    ∙ ap (λ (x : List ℕ). set x 5 h) (with-byte net n l g 4 p (lit< tt))
+
+-- and turned once more
+pub turned-turned : (net : List ℕ) (p h x y : ℕ) → turned (turned net p h) x y ≡ turned net x y
+unfolding turned
+turned-turned net p h x y =
+    ap (λ (z : List ℕ). set z 5 y) (set-comm (set net 4 p) 5 4 h x (λ e. omega arith) ∙ ap (λ (z : List ℕ). set z 5 h) (set-set net 4 p x))
+    ∙ set-set (set net 4 x) 5 h y

@@ -44,6 +44,9 @@ pub record Frame (net new : List ℕ) (n : ℕ) : Type 0 where
 pub frame-within : {net new : List ℕ} {n : ℕ} → Frame net new n → rowStart net n ≤ length net → rowStart new n ≤ length new
 frame-within {n = n} f h = omega (arith, f .size, f .starts n (omega arith))
 
+pub frame-ends : {net new : List ℕ} {n : ℕ} → Frame net new n → length net ≡ rowStart net n → length new ≡ rowStart new n
+frame-ends {n = n} f h = omega (arith, f .size, f .starts n (omega arith))
+
 pub frame-byte : {net new : List ℕ} {n : ℕ} → Frame net new n → (x : ℕ) → x < headerBytes → getD new x 0 ≡ getD net x 0
 frame-byte {net} {new} f x l = sym (getD-take headerBytes new x 0 l) ∙ ap (λ (h : List ℕ). getD h x 0) (f .header) ∙ getD-take headerBytes net x 0 l
 

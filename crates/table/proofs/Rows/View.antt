@@ -78,7 +78,3 @@ module _ (net : List ℕ) where
   join-rest (suc m) k n a =
       let rest = drop (rowStart net k) net in
       rw (← join-rest m (suc k) n (omega arith), ← drop-drop (rowSize rest) (rowStart net k) net, take-append-drop (rowSize rest) rest)
-
-  pub join : (n : ℕ) → net ≡ take headerBytes net ++ joined (rowAt net) 0 n (drop (rowStart net n) net)
-  unfolding rowStart
-  join n = sym (take-append-drop headerBytes net) ∙ ap (λ (z : List ℕ). take headerBytes net ++ z) (join-rest n 0 n (omega arith))

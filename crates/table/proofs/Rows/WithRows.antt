@@ -5,15 +5,15 @@ use mathlib.Core.List.{List, _++_}
 use Prim.Native.Nat.{ℕ, zero, suc, _+_, _-_, _≤_, _<_}
 use native.Mathlib.Omega.{arith}
 use lib.Dec.{eqb}
-use lib.ListN.{length, getD, set, take, drop, length-drop, drop-of-length-le}
+use lib.ListN.{length, getD, set, take, drop, length-drop}
 use lib.Seq.{length-take-le, take-at, drop-drop, drop-set-lt, take-set-lt, set-append-left, getD-take, getD-drop}
 use borrow.Author.Tests.{eqb-true, eq-eqb, ne-eqb}
 use Rattle.bits.specs.Words.{pick}
 use Rattle.bits.proofs.Words.Bools.{pick-of}
 use Rattle.card.specs.Row.{rowSize, Whole}
 use Rattle.card.proofs.Rows.Sizes.{first-whole, SameSize, size-same, size-whole}
-use Rattle.table.specs.Rows.{headerBytes, rowStart, rowAt, setRow, joined, withRows}
-use Rattle.table.proofs.Rows.View.{joined-cut, joined-ext, view-from, view-next, view-at, view-end, join-front, join-rest, join}
+use Rattle.table.specs.Rows.{headerBytes, rowStart, rowAt, setRow, joined, withRows, eachRow}
+use Rattle.table.proofs.Rows.View.{joined-cut, joined-ext, view-from, view-next, view-at, view-end, join-front, join-rest}
 use Rattle.table.proofs.Rows.Starts.{start-zero, start-more, start-mono, start-least, start-header, start-body, Frame}
 
 -- ---- the rows of a network that has n of them
@@ -123,15 +123,16 @@ pub with-ext : (net : List ℕ) (n : ℕ) (f g : ℕ → List ℕ) → ((k : ℕ
 unfolding withRows
 with-ext net n f g e = rw (joined-ext f g n 0 (drop (rowStart net n) net) (λ k a b. e k (omega arith)))
 
--- header and rows determine the bytes
-pub same-bytes : (net new : List ℕ) (n : ℕ) → length net ≡ rowStart net n → length new ≡ rowStart new n → take headerBytes new ≡ take headerBytes net
-    → ((k : ℕ) → k < n → rowAt new k ≡ rowAt net k) → new ≡ net
-same-bytes net new n a b h e =
-    join new n
-    ∙ rw (
-      h,
-      drop-of-length-le new {i = rowStart new n} (omega arith),
-      ← drop-of-length-le net {i = rowStart net n} (omega arith),
-      joined-ext (rowAt new) (rowAt net) n 0 (drop (rowStart net n) net) (λ k c d. e k (omega arith)),
-    )
-    (sym (join net n))
+-- ---- a function that keeps the size of rows, done to each
+module _ (net : List ℕ) (n : ℕ) (h : rowStart net n ≤ length net) (f : ℕ → List ℕ → List ℕ)
+    (keeps : (k : ℕ) → k < n → SameSize (rowAt net k) (f k (rowAt net k))) where
+  pub each-whole : (k : ℕ) → k < n → Whole (f k (rowAt net k))
+  each-whole k l = size-whole (keeps k l) (row-whole net n h k l)
+
+  pub each-row : (k : ℕ) → k < n → rowAt (eachRow f net n) k ≡ f k (rowAt net k)
+  unfolding eachRow
+  each-row k l = with-at net n h _ each-whole k l
+
+  pub each-frame : Frame net (eachRow f net n) n
+  unfolding eachRow
+  each-frame = with-frame net n h _ each-whole (λ k l. keeps k l .long)

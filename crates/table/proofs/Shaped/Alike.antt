@@ -78,3 +78,12 @@ module _ (net : List ℕ) (s : shape net ≡ true) (b : Rams net) where
     id = λ k l. rw (rowAt-turned new p h k) (c .id k l);
     online = λ k l. online-same new (turned new p h) k (rowAt-turned new p h k) ∙ c .online k l;
   }
+
+-- ---- a well-formed network of n rows, with RAMs and IDs of bytes; and what is alike
+pub record Good (n : ℕ) (net : List ℕ) : Type 0 where
+  pub fits : shape net ≡ true
+  pub rams : Rams net
+  pub count : rows net ≡ n
+
+pub good-alike : {n : ℕ} {net new : List ℕ} → Good n net → Alike net new → Good n new
+good-alike g a = record { fits = a .fits; rams = a .rams; count = a .count ∙ g .count }

@@ -16,12 +16,12 @@ use Rattle.card.proofs.Rows.Sizes.{SameSize}
 use Rattle.table.specs.Rows.{headerBytes, rowAt, setRow}
 use Rattle.table.specs.Network.{rows, phase, holder, LOST, turned, regsAt, onLineAt, isNode, shape}
 use Rattle.table.proofs.Folds.{clash}
-use Rattle.table.proofs.Rows.Starts.{Frame, frame-byte}
+use Rattle.table.proofs.Rows.Starts.{Frame, frame-ends, frame-byte}
 use Rattle.table.proofs.Rows.WithRows.{rowAt-setRow, rowAt-setRow-other, setRow-frame}
 use Rattle.table.proofs.Rows.Networks.{length-turned, start-turned, rowAt-turned, turned-other, rows-turned, phase-turned, holder-turned}
 use Rattle.table.proofs.Online.Nodes.{online-same, node-of}
 use Rattle.table.proofs.Rows.Headers.{header-kept}
-use Rattle.table.proofs.Shaped.Shapes.{OnLineRow, shape-header, shape-least, shape-room, shape-row, shape-ids, shape-phase, shape-holder, shape-lost, shape-of}
+use Rattle.table.proofs.Shaped.Shapes.{OnLineRow, shape-header, shape-least, shape-room, shape-row, shape-ids, shape-ends, shape-phase, shape-holder, shape-lost, shape-of}
 
 -- the row s in the place of the row r: well formed, with r's ID, and on line as r is
 pub record Kept (r s : List ℕ) : Type 0 where
@@ -55,7 +55,7 @@ shape-became net new s c =
     let ho = became-holder c in
     let same : (k : ℕ) → k < rows net → onLineAt new k ≡ onLineAt net k = λ k b. c .row k b .online in
     shape-of new
-    (header-kept net new (shape-header net s) (c .frame .size) (c .frame .starts (rows net) (omega arith)) (λ x b u v. frame-byte (c .frame) x b) (omega (arith, shape-phase net s)))
+    (header-kept net new (shape-header net s) (frame-ends (c .frame) (shape-ends net s)) (λ x b u v. frame-byte (c .frame) x b) (omega (arith, shape-phase net s)))
     (λ k b. c .row k (omega arith) .well)
     (λ j k bj bk p o i. let dj : j < rows net = omega arith in
     let dk : k < rows net = omega arith in
@@ -98,7 +98,7 @@ shape-change net k r s l e w d a =
     → regsAt (setRow net k r) j .id ≡ regsAt (setRow net k r) k .id → ⊥
     = λ j lj t p q i. clash (node-of net j (regsOf r .id) (rw (there j lj t) at q) (rw (there j lj t, here) at i)) (d (rw here at p) j lj (eqb-false j k t)) in
     shape-of (setRow net k r)
-    (header-kept net (setRow net k r) (shape-header net s) (f .size) (f .starts (rows net) (omega arith)) (λ x u v z. same x u) (omega (arith, shape-phase net s)))
+    (header-kept net (setRow net k r) (shape-header net s) (frame-ends f (shape-ends net s)) (λ x u v z. same x u) (omega (arith, shape-phase net s)))
     (λ j m. let lj : j < rows net = omega arith in
     ⊎-elim (λ (t : eqb j k ≡ true). rw (eqb-true j k t, here) w) (λ (t : eqb j k ≡ false). rw (there j lj t) (shape-row net s j lj)) (cases (eqb j k)))
     (λ i j mi mj p q x. let li : i < rows net = omega arith in
@@ -128,7 +128,7 @@ shape-turned net p h s l a b =
     let same : (k : ℕ) → onLineAt (turned net p h) k ≡ onLineAt net k = λ k. online-same net (turned net p h) k (rowAt-turned net p h k) in
     let row = rowAt-turned net p h in
     shape-of (turned net p h)
-    (header-kept net (turned net p h) (shape-header net s) (length-turned net p h) (start-turned net p h (rows net)) (λ x q u v. turned-other net p h x u v) (omega arith))
+    (header-kept net (turned net p h) (shape-header net s) (length-turned net p h ∙ shape-ends net s ∙ sym (start-turned net p h (rows net))) (λ x q u v. turned-other net p h x u v) (omega arith))
     (λ k q. ap wellFormed (row k) ∙ shape-row net s k (omega arith))
     (λ j k bj bk x o i. shape-ids net s j k (omega arith) (omega arith) (sym (same j) ∙ x) (sym (same k) ∙ o)
     (sym (ap (λ (r : List ℕ). regsOf r .id) (row j)) ∙ i ∙ ap (λ (r : List ℕ). regsOf r .id) (row k)))

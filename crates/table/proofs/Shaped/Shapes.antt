@@ -80,12 +80,13 @@ module _ (net : List ℕ) (s : shape net ≡ true) where
   pub shape-header : headerFits net ≡ true
   shape-header = tests .0
 
-  shape-length : length net ≡ rowStart net (rows net)
-  shape-length = header-length net shape-header
+  -- nothing lies after the rows
+  pub shape-ends : length net ≡ rowStart net (rows net)
+  shape-ends = header-length net shape-header
 
   -- the rows and the header lie in the network
   pub shape-room : rowStart net (rows net) ≤ length net
-  shape-room = omega (arith, shape-length)
+  shape-room = omega (arith, shape-ends)
 
   pub shape-least : headerBytes ≤ length net
   shape-least = start-header net (rows net) shape-room

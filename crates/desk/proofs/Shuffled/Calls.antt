@@ -1,0 +1,73 @@
+-- C-24: any call of a network and of its rows in another order, and so any sequence of calls.
+-- Assumes nothing.
+use mathlib.Core.Path.{_≡_, refl, _∙_, ap}
+use mathlib.Core.Bool.{Bool}
+use mathlib.Core.List.{List, [], _∷_, map}
+use Prim.Native.Nat.{ℕ, _<_}
+use native.Mathlib.Omega.{arith}
+use lib.Dec.{lit<}
+use Rattle.bits.proofs.Words.Bools.{pick-of}
+use Rattle.table.specs.Network.{rows, OnlyRow}
+use Rattle.table.specs.Shuffle.{Shuffle, shuffled}
+use Rattle.table.proofs.Shaped.Alike.{Good, good-alike, bytes-rams}
+use Rattle.table.proofs.Access.ShapeCalls.{shape-read, shape-write, shape-reset, shape-timer}
+use Rattle.table.proofs.Access.RamsKept.{rams-read, rams-write, rams-reset, rams-timer}
+use Rattle.table.proofs.Access.Others.{read-only, write-only, reset-only, timer-only}
+use Rattle.table.proofs.Shuffled.Calls.{place-number-shuffled, reading-shuffled, read-shuffled, write-number-shuffled, write-shuffled, reset-shuffled, timer-number-shuffled, timer-shuffled, interrupt-shuffled, data-shuffled, data-number-shuffled}
+use Rattle.line.specs.declared.step.Answer.{Answer}
+use Rattle.line.specs.Traffic.{Turn}
+use Rattle.line.proofs.Shuffled.Steps.{step-shuffled}
+use Rattle.desk.specs.Host.{Call, Read, Write, Reset, Timer, Interrupt, Data, DataNumber, Step, Lap, Number, Register, Line, Stretch, Stepped, Takers, replied, called, replies, table}
+use Rattle.desk.specs.Shuffle.{callTo, takerTo, replyTo, ShuffledWhole}
+use Rattle.desk.proofs.Shuffled.Laps.{good-step, good-lap, lapped-shuffled, lap-shuffled, entries-shuffled}
+
+same-rows : {net new : List ℕ} {k : ℕ} {moves : ℕ → Bool} → OnlyRow net new k moves → rows new ≡ rows net
+same-rows o = o .frame .header 3 (lit< tt) (λ e. omega arith) (λ e. omega arith)
+
+-- a call leaves a network that the next may be made of
+good-called : {n : ℕ} (net : List ℕ) → Good n net → (c : Call) → Good n (called c net)
+good-called net g (Read k r) = record { fits = shape-read net (g .fits) k r; rams = rams-read net (g .fits) (g .rams) k r; count = same-rows (read-only net k r) ∙ g .count }
+good-called net g (Write k r v b) = record { fits = shape-write net (g .fits) k r v; rams = rams-write net (g .fits) (g .rams) k r v b; count = same-rows (write-only net k r v) ∙ g .count }
+good-called net g (Reset k) = record { fits = shape-reset net (g .fits) k; rams = rams-reset net (g .fits) (g .rams) k; count = same-rows (reset-only net k) ∙ g .count }
+good-called net g (Timer k) = record { fits = shape-timer net (g .fits) k; rams = rams-timer net (g .fits) (g .rams) k; count = same-rows (timer-only net k) ∙ g .count }
+good-called net g (Interrupt k) = g
+good-called net g (Data k p) = g
+good-called net g (DataNumber k p) = g
+good-called net g (Step fault) = good-step net g fault
+good-called net g (Lap room) = good-lap net g room
+
+module _ {n : ℕ} (q : Shuffle n) where
+  module _ (net : List ℕ) (g : Good n net) where
+    replied-shuffled : (c : Call) → replied (callTo (q .to) c) (shuffled q net) ≡ replyTo (q .to) (replied c net)
+    replied-shuffled (Read k r) = ap Register (reading-shuffled q net (g .fits) (g .count) k r)
+    replied-shuffled (Write k r v b) = ap Number (write-number-shuffled q net (g .fits) (g .count) k r v)
+    replied-shuffled (Reset k) = ap Number (place-number-shuffled q net (g .fits) (g .count) k)
+    replied-shuffled (Timer k) = ap Number (timer-number-shuffled q net (g .fits) (g .count) k)
+    replied-shuffled (Interrupt k) = ap Line (interrupt-shuffled q net (g .fits) (g .count) k)
+    replied-shuffled (Data k p) = ap Stretch (data-shuffled q net (g .fits) (g .count) k p)
+    replied-shuffled (DataNumber k p) = ap Number (data-number-shuffled q net (g .fits) (g .count) k p)
+    replied-shuffled (Step fault) = ap (λ (t : Turn Answer). Stepped (t .answer)) (step-shuffled q net g fault)
+    replied-shuffled (Lap room) = rw (lapped-shuffled q net g room, entries-shuffled q net g room)
+
+    called-shuffled : (c : Call) → called (callTo (q .to) c) (shuffled q net) ≡ shuffled q (called c net)
+    called-shuffled (Read k r) = read-shuffled q net (g .fits) (g .count) k r
+    called-shuffled (Write k r v b) = write-shuffled q net (g .fits) (g .count) k r v
+    called-shuffled (Reset k) = reset-shuffled q net (g .fits) (g .count) k
+    called-shuffled (Timer k) = timer-shuffled q net (g .fits) (g .count) k
+    called-shuffled (Interrupt k) = refl
+    called-shuffled (Data k p) = refl
+    called-shuffled (DataNumber k p) = refl
+    called-shuffled (Step fault) = ap (λ (t : Turn Answer). t .after) (step-shuffled q net g fault)
+    called-shuffled (Lap room) = lap-shuffled q net g room
+
+  calls-shuffled : (l : List Call) (net : List ℕ) → Good n net
+      → (replies (map (callTo (q .to)) l) (shuffled q net) ≡ map (replyTo (q .to)) (replies l net)) × (table (map (callTo (q .to)) l) (shuffled q net) ≡ shuffled q (table l net))
+  unfolding replies table
+  calls-shuffled [] net g = (refl, refl)
+  calls-shuffled (c ∷ l) net g =
+      let here = called-shuffled net g c in
+      let rest = calls-shuffled l (called c net) (good-called net g c) in
+      (rw (replied-shuffled net g c, here) (ap (replyTo (q .to) (replied c net) ∷_) (rest .0)), ap (table (map (callTo (q .to)) l)) here ∙ rest .1)
+
+pub shuffled-whole : ShuffledWhole
+shuffled-whole net b s q l = calls-shuffled q l net (record { fits = s; rams = bytes-rams net s b; count = refl })

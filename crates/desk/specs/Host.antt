@@ -1,0 +1,76 @@
+-- The calls that a host makes of a network, in whatever order they come: what each answers, and what it leaves.
+-- Assumes nothing.
+use mathlib.Core.List.{List, [], _∷_}
+use Prim.Native.Nat.{ℕ, _<_}
+use Rattle.table.specs.declared.calls.Reading.{Reading}
+use Rattle.table.specs.declared.calls.Interrupting.{Interrupting}
+use Rattle.table.specs.Calls.{placeNumber, netReading, netAfterRead, netWriteNumber, netAfterWrite, netAfterReset, timerNumber, netAfterTimer, netInterrupt, netData, netDataNumber}
+use Rattle.line.specs.declared.step.Answer.{Answer}
+use Rattle.line.specs.Step.{step, answerNumber}
+use Rattle.desk.specs.declared.laps.Taker.{Taker}
+use Rattle.desk.specs.declared.laps.Lapped.{Lapped}
+use Rattle.desk.specs.Lap.{lapped, netAfterLap, lapTakers}
+
+-- register read (row, register) and write (row, register, value, which is a byte); hardware reset, lost-token timer and interrupt of a row; page reader (row,
+-- page) and its number; line step (fault); lap (how many entries the lent list has room for). The fresh call and loading make a network, and are not among them
+pub data Call : Type 0 where
+  Read : ℕ → ℕ → Call
+  Write : ℕ → ℕ → (v : ℕ) → v < 256 → Call
+  Reset : ℕ → Call
+  Timer : ℕ → Call
+  Interrupt : ℕ → Call
+  Data : ℕ → ℕ → Call
+  DataNumber : ℕ → ℕ → Call
+  Step : ℕ → Call
+  Lap : ℕ → Call
+
+-- what comes back: a number; a number and a register's value; a number and the interrupt line; a stretch of the network; what the step answers; a lap's number
+-- and total, and the takers that it writes into the lent list, whose other entries stay
+pub data Reply : Type 0 where
+  Number : ℕ → Reply
+  Register : Reading → Reply
+  Line : Interrupting → Reply
+  Stretch : List ℕ → Reply
+  Stepped : Answer → Reply
+  Takers : Lapped → List Taker → Reply
+
+abbrev pub replied : Call → List ℕ → Reply
+replied (Read k g) net = Register (netReading net k g)
+replied (Write k g v _) net = Number (netWriteNumber net k g v)
+replied (Reset k) net = Number (placeNumber net k)
+replied (Timer k) net = Number (timerNumber net k)
+replied (Interrupt k) net = Line (netInterrupt net k)
+replied (Data k p) net = Stretch (netData net k p)
+replied (DataNumber k p) net = Number (netDataNumber net k p)
+replied (Step fault) net = Stepped (step net fault .answer)
+replied (Lap room) net = Takers (lapped net room) (lapTakers net room)
+
+-- the network that it leaves
+abbrev pub called : Call → List ℕ → List ℕ
+called (Read k g) net = netAfterRead net k g
+called (Write k g v _) net = netAfterWrite net k g v
+called (Reset k) net = netAfterReset net k
+called (Timer k) net = netAfterTimer net k
+called (Interrupt k) net = net
+called (Data k p) net = net
+called (DataNumber k p) net = net
+called (Step fault) net = step net fault .after
+called (Lap room) net = netAfterLap net room
+
+-- "each call given the table as the last one left it"
+unfoldable pub replies : List Call → List ℕ → List Reply
+replies [] net = []
+replies (c ∷ l) net = replied c net ∷ replies l (called c net)
+
+unfoldable pub table : List Call → List ℕ → List ℕ
+table [] net = net
+table (c ∷ l) net = table l (called c net)
+
+-- the number of a reply, 0 where the call was not refused; a refused page reader gives a stretch of length 0
+abbrev pub replyNumber : Reply → ℕ
+replyNumber (Number n) = n
+replyNumber (Register r) = r .number
+replyNumber (Line i) = i .number
+replyNumber (Stretch s) = 0
+replyNumber (Stepped a) = answerNumber a
+replyNumber (Takers l t) = l .number
