@@ -8,3 +8,4 @@ pub mod Going
 pub mod LapLoop
 pub mod WalkSteps
 pub mod TakerRows
+pub mod Shuffled

@@ -4,4 +4,3 @@ pub mod ById
 pub mod Runs
 pub mod Lapping
 pub mod Theorems
-pub mod Shuffled

@@ -1,2 +1,3 @@
--- Demand 3. The other theorems are in the crate `promises`, which cites it.
+-- Demand 3 and C-24. The other theorems are in the crate `promises`, which cites these.
 pub mod Demanded
+pub mod Shuffling

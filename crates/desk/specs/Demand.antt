@@ -38,7 +38,7 @@ abbrev pub withStep : Reply → List Answer → List Answer
 withStep (Number n) l = l
 withStep (Register r) l = l
 withStep (Line i) l = l
-withStep (Stretch s) l = l
+withStep (Stretch d s) l = l
 withStep (Stepped a) l = pick (eqb (answerNumber a) 0) (a ∷ l) l
 withStep (Takers d t) l = l
 

@@ -2,8 +2,10 @@
 -- Assumes nothing.
 use mathlib.Core.List.{List, [], _∷_}
 use Prim.Native.Nat.{ℕ, _<_}
+use Rattle.card.specs.Packets.{dataFrom}
 use Rattle.table.specs.declared.calls.Reading.{Reading}
 use Rattle.table.specs.declared.calls.Interrupting.{Interrupting}
+use Rattle.table.specs.Rows.{rowAt}
 use Rattle.table.specs.Calls.{placeNumber, netReading, netAfterRead, netWriteNumber, netAfterWrite, netAfterReset, timerNumber, netAfterTimer, netInterrupt, netData, netDataNumber}
 use Rattle.line.specs.declared.step.Answer.{Answer}
 use Rattle.line.specs.Step.{step, answerNumber}
@@ -24,13 +26,13 @@ pub data Call : Type 0 where
   Step : ℕ → Call
   Lap : ℕ → Call
 
--- what comes back: a number; a number and a register's value; a number and the interrupt line; a stretch of the network; what the step answers; a lap's number
--- and total, and the takers that it writes into the lent list, whose other entries stay
+-- what comes back: a number; a number and a register's value; a number and the interrupt line; a stretch of the row that was asked, how far into it and which bytes;
+-- what the step answers; a lap's number and total, and the takers that it writes into the lent list, whose other entries stay
 pub data Reply : Type 0 where
   Number : ℕ → Reply
   Register : Reading → Reply
   Line : Interrupting → Reply
-  Stretch : List ℕ → Reply
+  Stretch : ℕ → List ℕ → Reply
   Stepped : Answer → Reply
   Takers : Lapped → List Taker → Reply
 
@@ -40,7 +42,7 @@ replied (Write k g v _) net = Number (netWriteNumber net k g v)
 replied (Reset k) net = Number (placeNumber net k)
 replied (Timer k) net = Number (timerNumber net k)
 replied (Interrupt k) net = Line (netInterrupt net k)
-replied (Data k p) net = Stretch (netData net k p)
+replied (Data k p) net = Stretch (dataFrom (rowAt net k) p) (netData net k p)
 replied (DataNumber k p) net = Number (netDataNumber net k p)
 replied (Step fault) net = Stepped (step net fault .answer)
 replied (Lap room) net = Takers (lapped net room) (lapTakers net room)
@@ -71,6 +73,6 @@ abbrev pub replyNumber : Reply → ℕ
 replyNumber (Number n) = n
 replyNumber (Register r) = r .number
 replyNumber (Line i) = i .number
-replyNumber (Stretch s) = 0
+replyNumber (Stretch d s) = 0
 replyNumber (Stepped a) = answerNumber a
 replyNumber (Takers l t) = l .number

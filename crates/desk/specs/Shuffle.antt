@@ -24,7 +24,7 @@ callTo to (DataNumber k p) = DataNumber (to k) p
 callTo to (Step fault) = Step fault
 callTo to (Lap room) = Lap room
 
--- "the same answers with rows renamed": those that a step names, and each taker's; a number, a register's value and a page's data name no row
+-- "the same answers with rows renamed": those that a step names, and each taker's; a number, a register's value and a stretch of the row that was asked name none
 abbrev pub takerTo : (ℕ → ℕ) → Taker → Taker
 takerTo to t = record { id = t .id; row = to (t .row); invitations = t .invitations }
 
@@ -32,7 +32,7 @@ abbrev pub replyTo : (ℕ → ℕ) → Reply → Reply
 replyTo to (Number n) = Number n
 replyTo to (Register r) = Register r
 replyTo to (Line i) = Line i
-replyTo to (Stretch s) = Stretch s
+replyTo to (Stretch d s) = Stretch d s
 replyTo to (Stepped a) = Stepped (renamed to a)
 replyTo to (Takers d l) = Takers d (map (takerTo to) l)
 

@@ -1,4 +1,5 @@
--- Refused calls change nothing, no other byte moves, a fault that meets nothing does nothing, the sizes of packets, and no second outcome fits a contract.
+-- Refused calls change nothing, no other byte moves, a fault that meets nothing does nothing, the sizes of packets, no answer depends on where a row stands, and no
+-- second outcome fits a contract.
 -- Assumes nothing.
 use Rattle.registers.proofs.Values.Fits.{rules-fit}
 use Rattle.registers.proofs.Values.Plains.{plain}
@@ -15,8 +16,10 @@ use Rattle.line.proofs.Promised.Left.{plain-left}
 use Rattle.line.proofs.Promised.TheHolder.{holder-left}
 use Rattle.line.proofs.Promised.Faults.{idle-fault}
 use Rattle.card.proofs.CardSums.{data-sizes}
+use Rattle.desk.specs.Shuffle.{ShuffledWhole}
 use Rattle.desk.proofs.Loads.Loaded.{load-refused}
 use Rattle.desk.proofs.Lapping.LapLeaves.{walk-refused, lap-refused}
+use Rattle.desk.proofs.Theorems.Shuffling as desk
 use Rattle.promises.specs.Promises.{RefusalsChangeNothing, NoOtherByte, OutcomesSay, PlainRows, IdleFaults, Sizes, OneOutcome}
 use Rattle.promises.proofs.Once.Bits.{bits-once}
 use Rattle.promises.proofs.Once.Told.{told-once}
@@ -66,6 +69,9 @@ idle-faults = idle-fault
 
 pub sizes : Sizes
 sizes = data-sizes
+
+pub shuffled-whole : ShuffledWhole
+shuffled-whole = desk.shuffled-whole
 
 pub one-outcome : OneOutcome
 one-outcome = record { bits = bits-once; told = told-once; queues = queues-once; commands = commands-once; registers = registers-once; card = card-once; table = table-once; line = line-once; desk = desk-once; words = words-once }

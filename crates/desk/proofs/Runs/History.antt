@@ -7,7 +7,7 @@ use Prim.Native.Nat.{ℕ, suc, _<_}
 use native.Mathlib.Nat.{suc-inj}
 use native.Mathlib.Omega.{arith}
 use lib.ListN.{length}
-use Rattle.table.specs.Network.{rows, holder, onLineAt, shape, SameNodes}
+use Rattle.table.specs.Network.{rows, onLineAt, shape, SameNodes}
 use Rattle.line.specs.declared.step.Answer.{Answer}
 use Rattle.line.specs.Step.{step, answerValue}
 use Rattle.line.proofs.Steps.StepIs.{step-done}

@@ -11,7 +11,7 @@ use borrow.Author.Tests.{eqb-false, ne-eqb}
 use Rattle.bits.proofs.Words.Bools.{pick-each}
 use Rattle.card.specs.Row.{regsOf}
 use Rattle.table.specs.Rows.{rowStart}
-use Rattle.table.specs.Network.{rows, phase, holder, LOST, PASS, TAKEN, turned, regsAt, nodeOf, topId, shape}
+use Rattle.table.specs.Network.{rows, phase, holder, LOST, PASS, TAKEN, turned, regsAt, nodeOf, topId}
 use Rattle.table.specs.Shuffle.{Shuffle, shuffled}
 use Rattle.table.proofs.Shaped.Shapes.{shape-phase}
 use Rattle.table.proofs.Shaped.Alike.{Good, good-alike}

@@ -6,12 +6,11 @@ use mathlib.Core.List.{List}
 use Prim.Native.Nat.{ℕ, _<_}
 use native.Mathlib.Omega.{arith}
 use lib.Dec.{eqb, ltb}
-use lib.ListN.{length}
 use Rattle.bits.proofs.Words.Bools.{pick-each}
 use Rattle.registers.specs.Events.{cancelled, transmitting, receiving, transmitPage}
 use Rattle.registers.proofs.Values.Ends.{transmit-page-small}
 use Rattle.card.specs.Packets.{malformed, pageShape, destination, packetAt}
-use Rattle.table.specs.Rows.{rowStart, rowAt}
+use Rattle.table.specs.Rows.{rowAt}
 use Rattle.table.specs.Network.{rows, regsAt, nodeOf}
 use Rattle.table.specs.Shuffle.{Shuffle, shuffled}
 use Rattle.table.proofs.Shaped.Alike.{Good, good-alike}

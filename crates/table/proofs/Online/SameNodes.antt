@@ -10,7 +10,7 @@ use Rattle.registers.specs.Fit.{onLine}
 use Rattle.table.specs.Network.{rows, phase, holder, regsAt, onLineAt, isNode, nodeOf, shape, SameNodes}
 use Rattle.table.proofs.Folds.{seek-same}
 use Rattle.table.proofs.Shaped.Kept.{Became}
-use Rattle.table.proofs.Shaped.Became.{Still, became-rows, became-phase, became-holder, still-moved}
+use Rattle.table.proofs.Shaped.Became.{Still, became-phase, became-holder, still-moved}
 use Rattle.table.proofs.Shaped.Alike.{Rams, Alike, alike-moved}
 
 pub same-nodes-then : {a b c : List ℕ} → SameNodes a b → SameNodes b c → SameNodes a c

@@ -1,25 +1,24 @@
 -- The calls to a row, of a network and of its rows in another order: the same number and the same answer, and what is left is left in that order.
 -- Assumes nothing.
-use mathlib.Core.Path.{_≡_, refl, sym, _∙_, ap}
-use mathlib.Core.Bool.{Bool, true, false, not, _&&_}
+use mathlib.Core.Path.{_≡_, refl, _∙_}
+use mathlib.Core.Bool.{Bool, true, false, _&&_}
 use mathlib.Core.List.{List}
 use mathlib.Core.Logic.{⊎-elim}
 use Prim.Native.Nat.{ℕ, _<_}
 use native.Mathlib.Omega.{arith}
-use lib.Dec.{eqb, leb, ltb}
+use lib.Dec.{eqb}
 use lib.ListN.{length}
 use borrow.Author.Tests.{eqb-true}
 use Rattle.bits.proofs.Words.Bools.{cases, pick-each}
 use Rattle.registers.specs.Registers.{hardwareReset}
 use Rattle.registers.specs.Events.{burst}
-use Rattle.told.specs.Numbers.{told}
 use Rattle.card.specs.Row.{regsOf}
 use Rattle.card.specs.Access.{rowAfterRead, rowAfterWrite, rowAfterReset}
 use Rattle.card.proofs.Rows.Sizes.{SameSize}
 use Rattle.card.proofs.Rows.Bytes.{size-put}
 use Rattle.card.proofs.Rows.WellFormed.{size-read, size-write}
 use Rattle.table.specs.Rows.{rowStart, rowAt, setRow}
-use Rattle.table.specs.Network.{rows, phase, holder, LOST, turned, onRegs, onLineAt, nodeOf, shape}
+use Rattle.table.specs.Network.{rows, phase, holder, LOST, turned, onRegs, onLineAt, shape}
 use Rattle.table.specs.Calls.{placeRefusals, placeNumber, netReadNumber, netReading, netAfterRead, isHolder, settled, duplicate, netWriteNumber, netAfterWrite, netAfterReset, timerNumber, netAfterTimer, netInterrupt, netData, netDataNumber}
 use Rattle.table.specs.Shuffle.{Shuffle, shuffled}
 use Rattle.table.proofs.Rows.Starts.{frame-ends}

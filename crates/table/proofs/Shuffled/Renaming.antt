@@ -3,16 +3,16 @@
 use mathlib.Core.Path.{_≡_, sym, _∙_, ap}
 use mathlib.Core.Bool.{true, false}
 use mathlib.Core.Logic.{⊎-elim}
-use Prim.Native.Nat.{ℕ, _≤_, _<_}
+use Prim.Native.Nat.{ℕ, _<_}
 use native.Mathlib.Omega.{arith}
 use lib.Dec.{eqb, leb, ltb}
-use borrow.Author.Tests.{eqb-true, eqb-false, eq-eqb, ne-eqb, ltb-true, ltb-false, lt-ltb, le-ltb, le-leb, lt-leb}
+use borrow.Author.Tests.{eqb-true, eqb-false, eq-eqb, ne-eqb, ltb-true, ltb-false, lt-ltb, lt-leb}
 use Rattle.bits.proofs.Words.Bools.{cases}
 use Rattle.table.specs.Shuffle.{Shuffle}
 
 module _ {n : ℕ} (q : Shuffle n) where
   -- two rows at one place are one row
-  pub to-one : (i j : ℕ) → q .to i ≡ q .to j → i ≡ j
+  to-one : (i j : ℕ) → q .to i ≡ q .to j → i ≡ j
   to-one i j e = sym (q .undone i) ∙ ap (q .from) e ∙ q .undone j
 
   pub to-same : (i j : ℕ) → eqb (q .to i) (q .to j) ≡ eqb i j

@@ -1,13 +1,13 @@
 -- A network in another order: its rows and its header; one row changed, each row changed, another phase and holder, before or after.
 -- Assumes nothing.
-use mathlib.Core.Path.{_≡_, refl, sym, _∙_, ap}
+use mathlib.Core.Path.{_≡_, sym, _∙_, ap}
 use mathlib.Core.Bool.{true, false}
 use mathlib.Core.List.{List, []}
 use mathlib.Core.Logic.{⊎-elim}
 use Prim.Native.Nat.{ℕ, _≤_, _<_}
 use native.Mathlib.Omega.{arith}
 use lib.Dec.{eqb, ltb, lit<}
-use lib.ListN.{length, getD, take, drop, drop-of-length-le}
+use lib.ListN.{length, getD, drop-of-length-le}
 use lib.Seq.{take-nil, getD-take}
 use borrow.Author.Tests.{eqb-true, eqb-false, ltb-true, ltb-false}
 use Rattle.bits.specs.Words.{pick}
@@ -20,7 +20,7 @@ use Rattle.table.specs.Shuffle.{Shuffle, shuffled}
 use Rattle.table.proofs.Rows.Starts.{start-mono, start-header, frame-byte}
 use Rattle.table.proofs.Rows.WithRows.{row-whole, with-at, with-header, with-end, with-with, with-ext, setRow-with, same-at, rowAt-setRow, rowAt-setRow-other, setRow-frame, each-whole, each-row, each-frame}
 use Rattle.table.proofs.Rows.Networks.{length-turned, start-turned, rowAt-turned, turned-other, phase-turned, holder-turned, turned-setRow, turned-turned, turned-with}
-use Rattle.table.proofs.Shuffled.Renaming.{to-within, from-within, to-from, to-same}
+use Rattle.table.proofs.Shuffled.Renaming.{to-within, from-within, to-from}
 
 -- past the rows there is no row
 row-past : (net : List ℕ) (n k : ℕ) → length net ≡ rowStart net n → n ≤ k → rowAt net k ≡ []

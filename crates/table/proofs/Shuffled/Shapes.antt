@@ -1,27 +1,25 @@
 -- A well-formed network in another order: it is well formed, the same rows are on line, and a row that is found by its ID, and the highest ID, are the same.
 -- Assumes nothing.
-use mathlib.Core.Path.{_≡_, refl, sym, _∙_, ap}
-use mathlib.Core.Bool.{Bool, true, false, not, _&&_}
+use mathlib.Core.Path.{_≡_, sym, _∙_, ap}
+use mathlib.Core.Bool.{true, not}
 use mathlib.Core.List.{List}
 use Prim.Native.Nat.{ℕ, _≤_, _<_}
 use native.Mathlib.Omega.{arith}
-use lib.Dec.{eqb, ltb}
+use lib.Dec.{eqb}
 use lib.ListN.{length}
 use borrow.Author.Tests.{eq-eqb, ne-eqb}
-use Rattle.bits.specs.Words.{pick}
 use Rattle.bits.proofs.Words.Bools.{and-left}
-use Rattle.registers.specs.Fit.{onLine}
 use Rattle.card.specs.Row.{regsOf, wellFormed}
-use Rattle.table.specs.Folds.{some, seek}
-use Rattle.table.specs.Rows.{rowStart, rowAt}
+use Rattle.table.specs.Folds.{some}
+use Rattle.table.specs.Rows.{rowStart}
 use Rattle.table.specs.Network.{rows, phase, holder, LOST, regsAt, onLineAt, isNode, nodeOf, topId, shape}
 use Rattle.table.specs.Shuffle.{Shuffle, shuffled}
 use Rattle.table.proofs.Folds.{seek-same, some-same}
 use Rattle.table.proofs.Rows.Headers.{header-kept}
 use Rattle.table.proofs.Online.Nodes.{other, node-online, node-id}
 use Rattle.table.proofs.Online.Highest.{top-above, top-least}
-use Rattle.table.proofs.Shaped.Shapes.{shape-ends, shape-header, shape-row, shape-ids, shape-phase, shape-lost, shape-holder, shape-of}
-use Rattle.table.proofs.Shuffled.Renaming.{to-one, to-within, from-within, to-from}
+use Rattle.table.proofs.Shaped.Shapes.{shape-ends, shape-header, shape-row, shape-ids, shape-phase, shape-holder, shape-of}
+use Rattle.table.proofs.Shuffled.Renaming.{to-within, from-within, to-from}
 use Rattle.table.proofs.Shuffled.Searches.{some-shuffled, seek-shuffled}
 use Rattle.table.proofs.Shuffled.Rows.{shuffled-ends, shuffled-from, shuffled-header, shuffled-rows, shuffled-phase, shuffled-holder}
 

@@ -6,20 +6,21 @@ use mathlib.Core.List.{List, [], _∷_, map}
 use Prim.Native.Nat.{ℕ, _<_}
 use native.Mathlib.Omega.{arith}
 use lib.Dec.{lit<}
-use Rattle.bits.proofs.Words.Bools.{pick-of}
 use Rattle.table.specs.Network.{rows, OnlyRow}
 use Rattle.table.specs.Shuffle.{Shuffle, shuffled}
-use Rattle.table.proofs.Shaped.Alike.{Good, good-alike, bytes-rams}
+use Rattle.table.proofs.Shaped.Alike.{Good, bytes-rams}
 use Rattle.table.proofs.Access.ShapeCalls.{shape-read, shape-write, shape-reset, shape-timer}
 use Rattle.table.proofs.Access.RamsKept.{rams-read, rams-write, rams-reset, rams-timer}
 use Rattle.table.proofs.Access.Others.{read-only, write-only, reset-only, timer-only}
+use Rattle.table.proofs.Shuffled.Rows.{shuffled-at}
+use Rattle.table.proofs.Shuffled.Shapes.{ends-at}
 use Rattle.table.proofs.Shuffled.Calls.{place-number-shuffled, reading-shuffled, read-shuffled, write-number-shuffled, write-shuffled, reset-shuffled, timer-number-shuffled, timer-shuffled, interrupt-shuffled, data-shuffled, data-number-shuffled}
 use Rattle.line.specs.declared.step.Answer.{Answer}
 use Rattle.line.specs.Traffic.{Turn}
 use Rattle.line.proofs.Shuffled.Steps.{step-shuffled}
-use Rattle.desk.specs.Host.{Call, Read, Write, Reset, Timer, Interrupt, Data, DataNumber, Step, Lap, Number, Register, Line, Stretch, Stepped, Takers, replied, called, replies, table}
-use Rattle.desk.specs.Shuffle.{callTo, takerTo, replyTo, ShuffledWhole}
-use Rattle.desk.proofs.Shuffled.Laps.{good-step, good-lap, lapped-shuffled, lap-shuffled, entries-shuffled}
+use Rattle.desk.specs.Host.{Call, Read, Write, Reset, Timer, Interrupt, Data, DataNumber, Step, Lap, Number, Register, Line, Stepped, replied, called, replies, table}
+use Rattle.desk.specs.Shuffle.{callTo, replyTo, ShuffledWhole}
+use Rattle.desk.proofs.Lapping.Shuffled.{good-step, good-lap, lapped-shuffled, lap-shuffled, entries-shuffled}
 
 same-rows : {net new : List ℕ} {k : ℕ} {moves : ℕ → Bool} → OnlyRow net new k moves → rows new ≡ rows net
 same-rows o = o .frame .header 3 (lit< tt) (λ e. omega arith) (λ e. omega arith)
@@ -44,7 +45,7 @@ module _ {n : ℕ} (q : Shuffle n) where
     replied-shuffled (Reset k) = ap Number (place-number-shuffled q net (g .fits) (g .count) k)
     replied-shuffled (Timer k) = ap Number (timer-number-shuffled q net (g .fits) (g .count) k)
     replied-shuffled (Interrupt k) = ap Line (interrupt-shuffled q net (g .fits) (g .count) k)
-    replied-shuffled (Data k p) = ap Stretch (data-shuffled q net (g .fits) (g .count) k p)
+    replied-shuffled (Data k p) = rw (shuffled-at q net (ends-at q net (g .fits) (g .count)) k, data-shuffled q net (g .fits) (g .count) k p)
     replied-shuffled (DataNumber k p) = ap Number (data-number-shuffled q net (g .fits) (g .count) k p)
     replied-shuffled (Step fault) = ap (λ (t : Turn Answer). Stepped (t .answer)) (step-shuffled q net g fault)
     replied-shuffled (Lap room) = rw (lapped-shuffled q net g room, entries-shuffled q net g room)

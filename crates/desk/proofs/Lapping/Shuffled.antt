@@ -1,20 +1,19 @@
 -- A lap of a network and of its rows in another order: the same total, the same takers with rows renamed, and what is left is left in that order.
 -- Assumes nothing.
 use mathlib.Core.Path.{_≡_, refl, sym, _∙_, ap, fun-ext}
-use mathlib.Core.Bool.{Bool, true}
+use mathlib.Core.Bool.{Bool}
 use mathlib.Core.List.{List, [], _∷_, map}
 use Prim.Native.Nat.{ℕ, zero, suc, _+_, _*_}
 use native.Mathlib.Omega.{arith}
-use lib.Dec.{eqb}
 use lib.ListN.{length}
 use borrow.Author.Tests.{eqb-true}
 use Rattle.bits.specs.Words.{pick}
 use Rattle.bits.proofs.Words.Bools.{pick-of, pick-each}
 use Rattle.table.specs.Rows.{rowStart}
-use Rattle.table.specs.Network.{rows, phase, regsAt, shape}
+use Rattle.table.specs.Network.{rows}
 use Rattle.table.specs.Shuffle.{Shuffle, shuffled}
 use Rattle.table.proofs.Shaped.Shapes.{shape-ids}
-use Rattle.table.proofs.Shaped.Alike.{Rams, Good, good-alike}
+use Rattle.table.proofs.Shaped.Alike.{Good, good-alike}
 use Rattle.table.proofs.Shuffled.Renaming.{from-within}
 use Rattle.table.proofs.Shuffled.Rows.{shuffled-at, shuffled-from, shuffled-rows, shuffled-phase}
 use Rattle.table.proofs.Shuffled.Shapes.{ends-at, shape-shuffled, id-shuffled}
@@ -24,7 +23,6 @@ use Rattle.line.specs.Step.{step, renamed}
 use Rattle.line.proofs.Steps.StepBy.{sound-step}
 use Rattle.line.proofs.Shuffled.Steps.{step-shuffled}
 use Rattle.desk.specs.declared.laps.Taker.{Taker}
-use Rattle.desk.specs.declared.laps.Lapped.{Lapped}
 use Rattle.desk.specs.Lap.{nodes, after, answers, invitations, entry, takers, lapSteps, lapRefusals, lapNumber, runs, lapped, netAfterLap, lapTakers}
 use Rattle.desk.specs.Shuffle.{takerTo}
 use Rattle.desk.proofs.ById.Ring.{roster}
@@ -48,7 +46,7 @@ unfolding netAfterLap
 good-lap {n} net g room = pick-of (Good n) (runs net room) (λ _. good-alike g (alikes net (g .fits) (g .rams) (lapSteps net))) (λ _. g)
 
 -- ---- answers with rows renamed
-pub invitations-renamed : (to : ℕ → ℕ) (l : List Answer) → invitations (map (renamed to) l) ≡ invitations l
+invitations-renamed : (to : ℕ → ℕ) (l : List Answer) → invitations (map (renamed to) l) ≡ invitations l
 unfolding invitations
 invitations-renamed to [] = refl
 invitations-renamed to (Refused n ∷ l) = invitations-renamed to l
