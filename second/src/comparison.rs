@@ -18,6 +18,12 @@ const SHOWN: usize = 20;
 /// Characters shown of one line.
 const WIDTH: usize = 2_100;
 
+/// A call, and what the peer answered.
+pub struct Heard {
+    pub line: String,
+    pub answer: String,
+}
+
 /// One call as it went here.
 struct Exchange {
     line: Vec<u8>,
@@ -34,12 +40,22 @@ pub struct Comparison<'a> {
     compared: VecDeque<Exchange>,
     compared_calls: u64,
     calls: u64,
+    judges: bool,
+    heard: Option<Vec<Heard>>,
     watch: Watch,
     tally: Tally,
 }
 
 impl<'a> Comparison<'a> {
     pub fn new(peer: &'a mut dyn Peer) -> Comparison<'a> {
+        Comparison {
+            judges: true,
+            ..Comparison::unjudged(peer)
+        }
+    }
+
+    /// What goes on here only leads to calls: the peer may answer otherwise.
+    pub fn unjudged(peer: &'a mut dyn Peer) -> Comparison<'a> {
         Comparison {
             own: Prompt::new(),
             peer,
@@ -49,6 +65,8 @@ impl<'a> Comparison<'a> {
             compared: VecDeque::new(),
             compared_calls: 0,
             calls: 0,
+            judges: false,
+            heard: None,
             watch: Watch::default(),
             tally: Tally::default(),
         }
@@ -97,10 +115,27 @@ impl<'a> Comparison<'a> {
         Ok(())
     }
 
+    /// Keeps what the peer answers from now on.
+    pub fn listen(&mut self) -> Result<(), String> {
+        self.catch_up()?;
+        self.heard = Some(Vec::new());
+        Ok(())
+    }
+
+    /// What it answered since `listen`.
+    pub fn heard(&mut self) -> Result<Vec<Heard>, String> {
+        self.catch_up()?;
+        Ok(self.heard.take().unwrap_or_default())
+    }
+
+    /// Notes a call that was answered alike with rows in another order.
+    pub fn shuffled(&mut self, line: &str, answer: &str) {
+        self.tally.record_shuffled(line, answer);
+    }
+
     /// Compares all that still waits, and sees that nothing more comes.
     pub fn finish(&mut self) -> Result<(), String> {
-        self.send()?;
-        self.compare_down_to(0)?;
+        self.catch_up()?;
         let rest = self.peer.rest().map_err(|error| error.to_string())?;
         if rest.is_empty() {
             Ok(())
@@ -110,6 +145,11 @@ impl<'a> Comparison<'a> {
                 shortened(&rest)
             ))
         }
+    }
+
+    fn catch_up(&mut self) -> Result<(), String> {
+        self.send()?;
+        self.compare_down_to(0)
     }
 
     fn send(&mut self) -> Result<(), String> {
@@ -142,7 +182,13 @@ impl<'a> Comparison<'a> {
         let theirs = received().and_then(|answer| Ok((answer, received()?)));
         let (answer, sum) =
             theirs.map_err(|error| self.broken(&format!("{error}\n{}", shown(exchange))))?;
-        if same(&exchange.answer, &answer) && exchange.sum == sum {
+        if let Some(heard) = &mut self.heard {
+            heard.push(Heard {
+                line: String::from_utf8_lossy(&exchange.line).into_owned(),
+                answer: answer.clone(),
+            });
+        }
+        if !self.judges || same(&exchange.answer, &answer) && exchange.sum == sum {
             return Ok(());
         }
         Err(self.broken(&format!(
@@ -184,7 +230,7 @@ fn shown(exchange: &Exchange) -> String {
     )
 }
 
-fn shortened(text: &str) -> String {
+pub fn shortened(text: &str) -> String {
     let head: String = text.chars().take(WIDTH).collect();
     if head.len() == text.len() {
         head

@@ -15,6 +15,7 @@ mod refusal;
 mod registers;
 mod rng;
 mod scenes;
+mod shuffle;
 mod sights;
 mod sweeps;
 mod tally;
@@ -33,6 +34,7 @@ use scenes::Player;
 const USAGE: &str = "\
 second campaign CALLS SEED -- COMMAND ARGS..   random calls, every answer and byte compared
 second self CALLS SEED                         the same against the prompt of this program
+second shuffled CALLS SEED -- COMMAND ARGS..   random calls, and the same with rows in another order
 second cases -- COMMAND ARGS..                 the fixed cases
 second bench -- COMMAND ARGS..                 how fast it is
 second prompt                                  answers the lines of standard input itself";
@@ -45,6 +47,9 @@ fn main() -> ExitCode {
             start(&arguments[4..]).and_then(|mut peer| campaign(&mut peer, calls, seed))
         }
         ["self", calls, seed] => campaign(&mut InProcess::new(), calls, seed),
+        ["shuffled", calls, seed, "--", _, ..] => {
+            start(&arguments[4..]).and_then(|mut peer| shuffled(&mut peer, calls, seed))
+        }
         ["cases", "--", _, ..] => start(&arguments[2..]).and_then(|mut peer| cases::run(&mut peer)),
         ["bench", "--", _, ..] => {
             start(&arguments[2..]).and_then(|mut peer| benchmark::run(&mut peer))
@@ -78,11 +83,11 @@ fn prompt() -> io::Result<()> {
     Ok(())
 }
 
+fn number(text: &str) -> Result<u64, String> {
+    text.parse().map_err(|error| format!("{text}: {error}"))
+}
+
 fn campaign(peer: &mut dyn Peer, calls: &str, seed: &str) -> Result<(), String> {
-    let number = |text: &str| {
-        text.parse::<u64>()
-            .map_err(|error| format!("{text}: {error}"))
-    };
     let (calls, seed) = (number(calls)?, number(seed)?);
     let started = Instant::now();
     let mut player = Player::new(Comparison::new(peer), seed);
@@ -95,8 +100,29 @@ fn campaign(peer: &mut dyn Peer, calls: &str, seed: &str) -> Result<(), String> 
         both.calls(),
         started.elapsed().as_secs_f64()
     );
-    match both.tally().missing().as_slice() {
+    all_came(&both.tally().missing())
+}
+
+fn all_came(missing: &[String]) -> Result<(), String> {
+    match missing {
         [] => Ok(()),
         missing => Err(format!("can come and did not:\n{}", missing.join("\n"))),
     }
+}
+
+/// Holds the peer against itself, with rows in another order.
+fn shuffled(peer: &mut dyn Peer, calls: &str, seed: &str) -> Result<(), String> {
+    let (calls, seed) = (number(calls)?, number(seed)?);
+    let started = Instant::now();
+    let mut player = Player::new(Comparison::unjudged(peer), seed);
+    player.play_shuffled(calls)?;
+    let both = player.comparison();
+    both.tally().print_shuffled();
+    println!();
+    println!(
+        "{} calls of seed {seed}, alike with rows in another order, in {:.1} s",
+        both.calls(),
+        started.elapsed().as_secs_f64()
+    );
+    all_came(&both.tally().missing_shuffled())
 }

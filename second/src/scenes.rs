@@ -2,6 +2,7 @@
 //! which scene comes, and what it does, the seed decides.
 
 mod queues;
+mod shuffled;
 
 use crate::comparison::Comparison;
 use crate::material::{self, WIDE};
@@ -41,7 +42,7 @@ impl<'a> Player<'a> {
     }
 
     fn scene(&mut self) -> Played {
-        let weights = [3, 4, 4, 3, 3, 16, 8, 4, 7, 7, 6, 4, 9, 5, 3, 24];
+        let weights = [3, 4, 4, 3, 3, 16, 8, 4, 7, 7, 6, 4, 9, 5, 3, 24, 4];
         match self.rng.weighted(&weights) {
             0 => self.new_network(),
             1 => self.fresh_of_any_size(),
@@ -58,7 +59,8 @@ impl<'a> Player<'a> {
             12 => self.twins_and_tentative_ids(),
             13 => self.lines_not_understood(),
             14 => self.looks_at_bytes(),
-            _ => self.queues(),
+            15 => self.queues(),
+            _ => self.in_another_order(),
         }
     }
 
@@ -639,41 +641,51 @@ impl<'a> Player<'a> {
     fn comings_and_goings(&mut self) -> Played {
         self.ready()?;
         for _ in 0..self.rng.between(5, 15) {
-            let row = self.row_number();
-            match self.rng.weighted(&[8, 6, 3, 2, 2, 4, 4]) {
-                0 => {
-                    let configuration = material::plain_configuration(&mut self.rng);
-                    self.write(row, 6, configuration)?;
-                    if self.rng.one_in(4) {
-                        self.call(&format!("read {row} 7"))?;
-                    }
-                }
-                1 => {
-                    let other = self.some_row();
-                    let theirs = self.row(other).map_or(0, |row| row.node_id);
-                    let nearby = material::nearby_id(&mut self.rng);
-                    let id = self.rng.pick(&[theirs, nearby, nearby, 0]);
-                    self.write(row, 7, id)?;
-                }
-                2 => self.call(&format!("reset {row}"))?,
-                3 => self.call(&format!("timer {row}"))?,
-                4 => self.call(&format!("interrupt {row}"))?,
-                5 => {
-                    for _ in 0..self.rng.between(1, 4) {
-                        let command = self.rng.pick(&COMMANDS);
-                        self.write(row, 1, command)?;
-                    }
-                }
-                _ => self.step()?,
-            }
+            self.coming_or_going()?;
         }
         Ok(())
+    }
+
+    fn coming_or_going(&mut self) -> Played {
+        let row = self.row_number();
+        match self.rng.weighted(&[8, 6, 3, 2, 2, 4, 4]) {
+            0 => {
+                let configuration = material::plain_configuration(&mut self.rng);
+                self.write(row, 6, configuration)?;
+                if self.rng.one_in(4) {
+                    self.call(&format!("read {row} 7"))?;
+                }
+                Ok(())
+            }
+            1 => {
+                let other = self.some_row();
+                let theirs = self.row(other).map_or(0, |row| row.node_id);
+                let nearby = material::nearby_id(&mut self.rng);
+                let id = self.rng.pick(&[theirs, nearby, nearby, 0]);
+                self.write(row, 7, id)
+            }
+            2 => self.call(&format!("reset {row}")),
+            3 => self.call(&format!("timer {row}")),
+            4 => self.call(&format!("interrupt {row}")),
+            5 => {
+                for _ in 0..self.rng.between(1, 4) {
+                    let command = self.rng.pick(&COMMANDS);
+                    self.write(row, 1, command)?;
+                }
+                Ok(())
+            }
+            _ => self.step(),
+        }
     }
 
     /// Awake rows off line with the ID of one on line (DUPID), and tentative IDs that are taken
     /// (TENTID), while the token goes round.
     fn twins_and_tentative_ids(&mut self) -> Played {
         self.ready()?;
+        self.twin_and_tentative_id()
+    }
+
+    fn twin_and_tentative_id(&mut self) -> Played {
         let Some(original) = self.some_row_on_line() else {
             return Ok(());
         };
@@ -744,12 +756,17 @@ impl<'a> Player<'a> {
             _ => self.any_lap()?,
         }
         for _ in 0..self.rng.between(1, 4) {
-            if let (Some(row), true) = (self.some_row_on_line(), self.rng.flag()) {
-                self.call(&format!("timer {row}"))?;
-            }
-            self.any_lap()?;
+            self.lap_anew()?;
         }
         Ok(())
+    }
+
+    /// A lap, most often from LOST.
+    fn lap_anew(&mut self) -> Played {
+        if let (Some(row), true) = (self.some_row_on_line(), self.rng.flag()) {
+            self.call(&format!("timer {row}"))?;
+        }
+        self.any_lap()
     }
 
     fn damage(&mut self) -> Played {

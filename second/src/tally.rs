@@ -194,6 +194,42 @@ const WRITE_ANSWERS: [(&str, &[&str]); 9] = [
     ("above 7", &["REFUSED 3 REGISTER"]),
 ];
 
+/// The same, of a call that was made a second time with rows in another order.
+const SHUFFLED_ANSWERS: [(&str, &[&str]); 8] = [
+    ("read", &["DONE", "REFUSED 2 ROW"]),
+    (
+        "write",
+        &[
+            "DONE",
+            "REFUSED 2 ROW",
+            "REFUSED 7 BUSY",
+            "REFUSED 10 DUPLICATE",
+        ],
+    ),
+    ("reset", &["DONE", "REFUSED 2 ROW"]),
+    ("timer", &["DONE", "REFUSED 2 ROW", "REFUSED 5 NOTREADY"]),
+    ("interrupt", &["DONE 0", "DONE 1"]),
+    (
+        "step",
+        &[
+            "RECOVERED",
+            "PASSED",
+            "UNANSWERED",
+            "TOKENLOST",
+            "HELD NOTHING",
+            "HELD MALFORMED",
+            "HELD BROADCAST",
+            "HELD NOANSWER",
+            "HELD NAK",
+            "HELD DELIVERED",
+            "HELD UNACKNOWLEDGED",
+            "REFUSED 4 VALUE",
+        ],
+    ),
+    ("data", &["DONE", "REFUSED 4 VALUE"]),
+    ("lap", &["DONE", "REFUSED 7 BUSY", "REFUSED 13 ROOM"]),
+];
+
 /// The legal command bytes: twenty, and the two Clears.
 pub const COMMANDS: [u8; 22] = [
     0x01, 0x02, 0x03, 0x0B, 0x23, 0x2B, 0x04, 0x0C, 0x24, 0x2C, 0x84, 0x8C, 0xA4, 0xAC, 0x05, 0x0D,
@@ -203,11 +239,14 @@ pub const COMMANDS: [u8; 22] = [
 /// Clear Transmit Interrupt and Clear Receive Interrupt, which only a row with chaining takes.
 pub const CLEARS: [u8; 2] = [0x00, 0x08];
 
+const SHUFFLED: &str = "in another order, ";
+
 /// Counts by what was asked and what was answered.
 #[derive(Default)]
 pub struct Tally {
     words: BTreeMap<(String, String), u64>,
     closer: BTreeMap<(String, String), u64>,
+    shuffled: BTreeMap<(String, String), u64>,
 }
 
 impl Tally {
@@ -240,25 +279,45 @@ impl Tally {
         }
     }
 
+    /// A call that was answered alike with rows in another order.
+    pub fn record_shuffled(&mut self, line: &str, answer: &str) {
+        let word = line.split(' ').next().unwrap_or_default();
+        let asked = format!("{SHUFFLED}{word}");
+        count(&mut self.shuffled, asked, kind(word, answer));
+    }
+
     /// Those that can come and did not.
     pub fn missing(&self) -> Vec<String> {
-        let words = can_come()
-            .into_iter()
-            .filter(|key| !self.words.contains_key(key));
-        let closer = can_come_closer()
-            .into_iter()
-            .filter(|key| !self.closer.contains_key(key));
-        words
-            .chain(closer)
-            .map(|(asked, answer)| format!("{asked}: {answer}"))
-            .collect()
+        let mut missing = lacking(&self.words, can_come());
+        missing.extend(lacking(&self.closer, can_come_closer()));
+        missing
+    }
+
+    /// The same, of calls with rows in another order.
+    pub fn missing_shuffled(&self) -> Vec<String> {
+        lacking(&self.shuffled, keys(SHUFFLED, &SHUFFLED_ANSWERS))
     }
 
     pub fn print(&self) {
         print_table(&self.words);
         println!();
         print_table(&self.closer);
+        println!();
+        self.print_shuffled();
     }
+
+    /// Those of calls with rows in another order alone.
+    pub fn print_shuffled(&self) {
+        print_table(&self.shuffled);
+    }
+}
+
+fn lacking(counts: &BTreeMap<(String, String), u64>, wanted: Vec<(String, String)>) -> Vec<String> {
+    let missing = wanted
+        .into_iter()
+        .filter(|key| !counts.contains_key(key))
+        .map(|(asked, answer)| format!("{asked}: {answer}"));
+    missing.collect()
 }
 
 fn print_table(counts: &BTreeMap<(String, String), u64>) {

@@ -1,6 +1,8 @@
-//! Values worked out by hand from document 01, and from request C-11 in `tests/chaining.rs`.
+//! Values worked out by hand from document 01, from request C-11 in `tests/chaining.rs` and from C-24
+//! in `tests/shuffled.rs`.
 
 mod chaining;
+mod shuffled;
 
 use crate::model::{Network, Row, PAGE, RAM};
 use crate::prompt::{fnv, hex_text, Prompt};

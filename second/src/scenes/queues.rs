@@ -67,7 +67,7 @@ impl Player<'_> {
 
     /// Two packets and two receives wait, cancels are asked of some, and the token comes, or a
     /// packet before it.
-    fn cancels_at_the_token(&mut self, row: usize) -> Played {
+    pub(super) fn cancels_at_the_token(&mut self, row: usize) -> Played {
         self.receivers()?;
         for _ in 0..2 {
             self.waiting_packet(row)?;
