@@ -14,17 +14,17 @@ use Rattle.table.specs.Network.{Bytes, rows, phase, holder, LOST, TAKEN, isNode
 use Rattle.line.specs.Step.{highest, answerNumber}
 use Rattle.desk.specs.declared.laps.Taker.{Taker}
 use Rattle.desk.specs.Lap.{nodes, invitations, takers}
-use Rattle.desk.specs.Host.{Call, Read, Write, Reset, Timer, Interrupt, Data, DataNumber, Step, Lap, Reply, Number, Register, Line, Stretch, Stepped, Takers, replied, called, table, replyNumber}
+use Rattle.desk.specs.Host.{Call, At, Read, Write, Reset, Timer, Interrupt, Data, DataNumber, Step, Lap, Reply, Number, Register, Line, Stretch, Stepped, Takers, replied, called, table, replyNumber}
 
 -- "with no line fault, timer expiry, loading or fresh call": what may come between, where it is not refused
 abbrev pub Between : Call → Type 0
-Between (Read k g) = Unit {0}
-Between (Write k g v _) = Unit {0}
-Between (Reset k) = Unit {0}
-Between (Timer k) = ⊥
-Between (Interrupt k) = Unit {0}
-Between (Data k p) = Unit {0}
-Between (DataNumber k p) = Unit {0}
+Between (At k (Read g)) = Unit {0}
+Between (At k (Write g v _)) = Unit {0}
+Between (At k Reset) = Unit {0}
+Between (At k Timer) = ⊥
+Between (At k Interrupt) = Unit {0}
+Between (At k (Data p)) = Unit {0}
+Between (At k (DataNumber p)) = Unit {0}
 Between (Step fault) = fault ≡ 0
 Between (Lap room) = ⊥
 

@@ -13,16 +13,19 @@ use Rattle.desk.specs.declared.laps.Taker.{Taker}
 use Rattle.desk.specs.declared.laps.Lapped.{Lapped}
 use Rattle.desk.specs.Lap.{lapped, netAfterLap, lapTakers}
 
--- register read (row, register) and write (row, register, value, which is a byte); hardware reset, lost-token timer and interrupt of a row; page reader (row,
--- page) and its number; line step (fault); lap (how many entries the lent list has room for). The fresh call and loading make a network, and are not among them
+-- to one row: register read (register) and write (register, value, which is a byte); hardware reset, lost-token timer and interrupt; page reader (page) and its number
+pub data RowCall : Type 0 where
+  Read : ℕ → RowCall
+  Write : ℕ → (v : ℕ) → v < 256 → RowCall
+  Reset : RowCall
+  Timer : RowCall
+  Interrupt : RowCall
+  Data : ℕ → RowCall
+  DataNumber : ℕ → RowCall
+
+-- such a call to row k; a line step (fault); a lap (how many entries the lent list has room for). The fresh call and loading make a network, and are not among them
 pub data Call : Type 0 where
-  Read : ℕ → ℕ → Call
-  Write : ℕ → ℕ → (v : ℕ) → v < 256 → Call
-  Reset : ℕ → Call
-  Timer : ℕ → Call
-  Interrupt : ℕ → Call
-  Data : ℕ → ℕ → Call
-  DataNumber : ℕ → ℕ → Call
+  At : ℕ → RowCall → Call
   Step : ℕ → Call
   Lap : ℕ → Call
 
@@ -37,25 +40,25 @@ pub data Reply : Type 0 where
   Takers : Lapped → List Taker → Reply
 
 abbrev pub replied : Call → List ℕ → Reply
-replied (Read k g) net = Register (netReading net k g)
-replied (Write k g v _) net = Number (netWriteNumber net k g v)
-replied (Reset k) net = Number (placeNumber net k)
-replied (Timer k) net = Number (timerNumber net k)
-replied (Interrupt k) net = Line (netInterrupt net k)
-replied (Data k p) net = Stretch (dataFrom (rowAt net k) p) (netData net k p)
-replied (DataNumber k p) net = Number (netDataNumber net k p)
+replied (At k (Read g)) net = Register (netReading net k g)
+replied (At k (Write g v _)) net = Number (netWriteNumber net k g v)
+replied (At k Reset) net = Number (placeNumber net k)
+replied (At k Timer) net = Number (timerNumber net k)
+replied (At k Interrupt) net = Line (netInterrupt net k)
+replied (At k (Data p)) net = Stretch (dataFrom (rowAt net k) p) (netData net k p)
+replied (At k (DataNumber p)) net = Number (netDataNumber net k p)
 replied (Step fault) net = Stepped (step net fault .answer)
 replied (Lap room) net = Takers (lapped net room) (lapTakers net room)
 
 -- the network that it leaves
 abbrev pub called : Call → List ℕ → List ℕ
-called (Read k g) net = netAfterRead net k g
-called (Write k g v _) net = netAfterWrite net k g v
-called (Reset k) net = netAfterReset net k
-called (Timer k) net = netAfterTimer net k
-called (Interrupt k) net = net
-called (Data k p) net = net
-called (DataNumber k p) net = net
+called (At k (Read g)) net = netAfterRead net k g
+called (At k (Write g v _)) net = netAfterWrite net k g v
+called (At k Reset) net = netAfterReset net k
+called (At k Timer) net = netAfterTimer net k
+called (At k Interrupt) net = net
+called (At k (Data p)) net = net
+called (At k (DataNumber p)) net = net
 called (Step fault) net = step net fault .after
 called (Lap room) net = netAfterLap net room
 

@@ -10,17 +10,11 @@ use Rattle.table.specs.Network.{Bytes, rows, shape}
 use Rattle.table.specs.Shuffle.{Shuffle, shuffled}
 use Rattle.line.specs.Step.{renamed}
 use Rattle.desk.specs.declared.laps.Taker.{Taker}
-use Rattle.desk.specs.Host.{Call, Read, Write, Reset, Timer, Interrupt, Data, DataNumber, Step, Lap, Reply, Number, Register, Line, Stretch, Stepped, Takers, replies, table}
+use Rattle.desk.specs.Host.{Call, At, Step, Lap, Reply, Number, Register, Line, Stretch, Stepped, Takers, replies, table}
 
 -- "called rows .. renamed alike"
 abbrev pub callTo : (ℕ → ℕ) → Call → Call
-callTo to (Read k g) = Read (to k) g
-callTo to (Write k g v b) = Write (to k) g v b
-callTo to (Reset k) = Reset (to k)
-callTo to (Timer k) = Timer (to k)
-callTo to (Interrupt k) = Interrupt (to k)
-callTo to (Data k p) = Data (to k) p
-callTo to (DataNumber k p) = DataNumber (to k) p
+callTo to (At k c) = At (to k) c
 callTo to (Step fault) = Step fault
 callTo to (Lap room) = Lap room
 

@@ -85,6 +85,30 @@ fn in_that_order(first: &mut Desk, second: &mut Desk) {
     assert_eq!(renamed, second.answer(&whole));
 }
 
+/// `scripts/rows-moved` is `scripts/rows` with rows renamed: each line but the order, and each answer.
+#[test]
+fn the_scripts_of_rows_differ_in_the_numbers_of_rows() {
+    let shuffle = Shuffle::to(&[2, 0, 3, 1]);
+    let first = exchanges(include_str!("../../../scripts/rows.out"));
+    let second = exchanges(include_str!("../../../scripts/rows-moved.out"));
+    assert_eq!(first.len(), second.len());
+    for ((line, answer), (moved, renamed)) in first.into_iter().zip(second) {
+        if !line.starts_with("load ") {
+            assert_eq!(shuffle.line(line), moved);
+        }
+        assert_eq!(shuffle.answer(line, answer), renamed);
+    }
+}
+
+/// The lines that a script sends, each with its answer.
+fn exchanges(text: &str) -> Vec<(&str, &str)> {
+    let lines: Vec<&str> = text.lines().collect();
+    lines
+        .windows(2)
+        .filter_map(|pair| Some((pair[0].strip_prefix("> ")?, pair[1])))
+        .collect()
+}
+
 /// The prompt of this program, with one answer changed.
 struct Wrong {
     prompt: InProcess,

@@ -14,7 +14,7 @@ use Rattle.line.specs.declared.step.Answer.{Answer}
 use Rattle.line.specs.Step.{step, answerNumber}
 use Rattle.line.proofs.Steps.Refused.{step-refused}
 use Rattle.desk.specs.Lap.{lapped}
-use Rattle.desk.specs.Host.{Call, Read, Write, Reset, Timer, Interrupt, Data, DataNumber, Step, Lap, replied, called, replyNumber}
+use Rattle.desk.specs.Host.{Call, At, Read, Write, Reset, Timer, Interrupt, Data, DataNumber, Step, Lap, replied, called, replyNumber}
 use Rattle.desk.specs.Demand.{Between, withStep}
 use Rattle.desk.proofs.Lapping.LapLeaves.{walk-refused}
 
@@ -29,13 +29,13 @@ module _ (net : List ℕ) (s : shape net ≡ true) (b : Rams net) where
 
   pub comes : (c : Call) → (replyNumber (replied c net) ≡ 0 → Between c) → SameNodes net (called c net) → Comes net c
   unfolding lapped
-  comes (Read k g) h n = calmly (calm-read net s b k g) (λ l. refl)
-  comes (Write k g v x) h n = calmly (calm-write net s b k g v x n) (λ l. refl)
-  comes (Reset k) h n = calmly (calm-reset net s b k n) (λ l. refl)
-  comes (Timer k) h n = idle (Timer k) (timer-refused net k h) (λ l. refl)
-  comes (Interrupt k) h n = idle (Interrupt k) refl (λ l. refl)
-  comes (Data k p) h n = idle (Data k p) refl (λ l. refl)
-  comes (DataNumber k p) h n = idle (DataNumber k p) refl (λ l. refl)
+  comes (At k (Read g)) h n = calmly (calm-read net s b k g) (λ l. refl)
+  comes (At k (Write g v x)) h n = calmly (calm-write net s b k g v x n) (λ l. refl)
+  comes (At k Reset) h n = calmly (calm-reset net s b k n) (λ l. refl)
+  comes (At k Timer) h n = idle (At k Timer) (timer-refused net k h) (λ l. refl)
+  comes (At k Interrupt) h n = idle (At k Interrupt) refl (λ l. refl)
+  comes (At k (Data p)) h n = idle (At k (Data p)) refl (λ l. refl)
+  comes (At k (DataNumber p)) h n = idle (At k (DataNumber p)) refl (λ l. refl)
   comes (Step zero) h n = stepping
   comes (Step (suc f)) h n =
       let r : answerNumber (step net (suc f) .answer) ≡ 0 → ⊥ = λ z. let e = h z in omega arith in

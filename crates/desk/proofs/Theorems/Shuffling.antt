@@ -18,7 +18,7 @@ use Rattle.table.proofs.Shuffled.Calls.{place-number-shuffled, reading-shuffled
 use Rattle.line.specs.declared.step.Answer.{Answer}
 use Rattle.line.specs.Traffic.{Turn}
 use Rattle.line.proofs.Shuffled.Steps.{step-shuffled}
-use Rattle.desk.specs.Host.{Call, Read, Write, Reset, Timer, Interrupt, Data, DataNumber, Step, Lap, Number, Register, Line, Stepped, replied, called, replies, table}
+use Rattle.desk.specs.Host.{Call, At, Read, Write, Reset, Timer, Interrupt, Data, DataNumber, Step, Lap, Number, Register, Line, Stepped, replied, called, replies, table}
 use Rattle.desk.specs.Shuffle.{callTo, replyTo, ShuffledWhole}
 use Rattle.desk.proofs.Lapping.Shuffled.{good-step, good-lap, lapped-shuffled, lap-shuffled, entries-shuffled}
 
@@ -27,37 +27,37 @@ same-rows o = o .frame .header 3 (lit< tt) (λ e. omega arith) (λ e. omega arit
 
 -- a call leaves a network that the next may be made of
 good-called : {n : ℕ} (net : List ℕ) → Good n net → (c : Call) → Good n (called c net)
-good-called net g (Read k r) = record { fits = shape-read net (g .fits) k r; rams = rams-read net (g .fits) (g .rams) k r; count = same-rows (read-only net k r) ∙ g .count }
-good-called net g (Write k r v b) = record { fits = shape-write net (g .fits) k r v; rams = rams-write net (g .fits) (g .rams) k r v b; count = same-rows (write-only net k r v) ∙ g .count }
-good-called net g (Reset k) = record { fits = shape-reset net (g .fits) k; rams = rams-reset net (g .fits) (g .rams) k; count = same-rows (reset-only net k) ∙ g .count }
-good-called net g (Timer k) = record { fits = shape-timer net (g .fits) k; rams = rams-timer net (g .fits) (g .rams) k; count = same-rows (timer-only net k) ∙ g .count }
-good-called net g (Interrupt k) = g
-good-called net g (Data k p) = g
-good-called net g (DataNumber k p) = g
+good-called net g (At k (Read r)) = record { fits = shape-read net (g .fits) k r; rams = rams-read net (g .fits) (g .rams) k r; count = same-rows (read-only net k r) ∙ g .count }
+good-called net g (At k (Write r v b)) = record { fits = shape-write net (g .fits) k r v; rams = rams-write net (g .fits) (g .rams) k r v b; count = same-rows (write-only net k r v) ∙ g .count }
+good-called net g (At k Reset) = record { fits = shape-reset net (g .fits) k; rams = rams-reset net (g .fits) (g .rams) k; count = same-rows (reset-only net k) ∙ g .count }
+good-called net g (At k Timer) = record { fits = shape-timer net (g .fits) k; rams = rams-timer net (g .fits) (g .rams) k; count = same-rows (timer-only net k) ∙ g .count }
+good-called net g (At k Interrupt) = g
+good-called net g (At k (Data p)) = g
+good-called net g (At k (DataNumber p)) = g
 good-called net g (Step fault) = good-step net g fault
 good-called net g (Lap room) = good-lap net g room
 
 module _ {n : ℕ} (q : Shuffle n) where
   module _ (net : List ℕ) (g : Good n net) where
     replied-shuffled : (c : Call) → replied (callTo (q .to) c) (shuffled q net) ≡ replyTo (q .to) (replied c net)
-    replied-shuffled (Read k r) = ap Register (reading-shuffled q net (g .fits) (g .count) k r)
-    replied-shuffled (Write k r v b) = ap Number (write-number-shuffled q net (g .fits) (g .count) k r v)
-    replied-shuffled (Reset k) = ap Number (place-number-shuffled q net (g .fits) (g .count) k)
-    replied-shuffled (Timer k) = ap Number (timer-number-shuffled q net (g .fits) (g .count) k)
-    replied-shuffled (Interrupt k) = ap Line (interrupt-shuffled q net (g .fits) (g .count) k)
-    replied-shuffled (Data k p) = rw (shuffled-at q net (ends-at q net (g .fits) (g .count)) k, data-shuffled q net (g .fits) (g .count) k p)
-    replied-shuffled (DataNumber k p) = ap Number (data-number-shuffled q net (g .fits) (g .count) k p)
+    replied-shuffled (At k (Read r)) = ap Register (reading-shuffled q net (g .fits) (g .count) k r)
+    replied-shuffled (At k (Write r v b)) = ap Number (write-number-shuffled q net (g .fits) (g .count) k r v)
+    replied-shuffled (At k Reset) = ap Number (place-number-shuffled q net (g .fits) (g .count) k)
+    replied-shuffled (At k Timer) = ap Number (timer-number-shuffled q net (g .fits) (g .count) k)
+    replied-shuffled (At k Interrupt) = ap Line (interrupt-shuffled q net (g .fits) (g .count) k)
+    replied-shuffled (At k (Data p)) = rw (shuffled-at q net (ends-at q net (g .fits) (g .count)) k, data-shuffled q net (g .fits) (g .count) k p)
+    replied-shuffled (At k (DataNumber p)) = ap Number (data-number-shuffled q net (g .fits) (g .count) k p)
     replied-shuffled (Step fault) = ap (λ (t : Turn Answer). Stepped (t .answer)) (step-shuffled q net g fault)
     replied-shuffled (Lap room) = rw (lapped-shuffled q net g room, entries-shuffled q net g room)
 
     called-shuffled : (c : Call) → called (callTo (q .to) c) (shuffled q net) ≡ shuffled q (called c net)
-    called-shuffled (Read k r) = read-shuffled q net (g .fits) (g .count) k r
-    called-shuffled (Write k r v b) = write-shuffled q net (g .fits) (g .count) k r v
-    called-shuffled (Reset k) = reset-shuffled q net (g .fits) (g .count) k
-    called-shuffled (Timer k) = timer-shuffled q net (g .fits) (g .count) k
-    called-shuffled (Interrupt k) = refl
-    called-shuffled (Data k p) = refl
-    called-shuffled (DataNumber k p) = refl
+    called-shuffled (At k (Read r)) = read-shuffled q net (g .fits) (g .count) k r
+    called-shuffled (At k (Write r v b)) = write-shuffled q net (g .fits) (g .count) k r v
+    called-shuffled (At k Reset) = reset-shuffled q net (g .fits) (g .count) k
+    called-shuffled (At k Timer) = timer-shuffled q net (g .fits) (g .count) k
+    called-shuffled (At k Interrupt) = refl
+    called-shuffled (At k (Data p)) = refl
+    called-shuffled (At k (DataNumber p)) = refl
     called-shuffled (Step fault) = ap (λ (t : Turn Answer). t .after) (step-shuffled q net g fault)
     called-shuffled (Lap room) = lap-shuffled q net g room
 
