@@ -92,15 +92,27 @@ fn campaign(peer: &mut dyn Peer, calls: &str, seed: &str) -> Result<(), String> 
     let started = Instant::now();
     let mut player = Player::new(Comparison::new(peer), seed);
     player.play(calls)?;
-    let both = player.comparison();
-    both.tally().print();
+    let tally = player.comparison().tally();
+    tally.print();
+    let calls = player.comparison().calls();
     println!();
     println!(
-        "{} calls of seed {seed} alike, with as many sums, in {:.1} s",
-        both.calls(),
+        "{calls} calls of seed {seed} alike, with as many sums, in {:.1} s",
         started.elapsed().as_secs_f64()
     );
-    all_came(&both.tally().missing())
+    all_came(&tally.missing())
+}
+
+/// Holds the peer against itself, with rows in another order.
+fn shuffled(peer: &mut dyn Peer, calls: &str, seed: &str) -> Result<(), String> {
+    let (calls, seed) = (number(calls)?, number(seed)?);
+    let mut player = Player::new(Comparison::unjudged(peer), seed);
+    player.play_shuffled(calls)?;
+    let tally = player.comparison().tally();
+    tally.print_shuffled();
+    let calls = player.comparison().calls();
+    println!("\n{calls} calls of seed {seed}, alike with rows in another order");
+    all_came(&tally.missing_shuffled())
 }
 
 fn all_came(missing: &[String]) -> Result<(), String> {
@@ -108,21 +120,4 @@ fn all_came(missing: &[String]) -> Result<(), String> {
         [] => Ok(()),
         missing => Err(format!("can come and did not:\n{}", missing.join("\n"))),
     }
-}
-
-/// Holds the peer against itself, with rows in another order.
-fn shuffled(peer: &mut dyn Peer, calls: &str, seed: &str) -> Result<(), String> {
-    let (calls, seed) = (number(calls)?, number(seed)?);
-    let started = Instant::now();
-    let mut player = Player::new(Comparison::unjudged(peer), seed);
-    player.play_shuffled(calls)?;
-    let both = player.comparison();
-    both.tally().print_shuffled();
-    println!();
-    println!(
-        "{} calls of seed {seed}, alike with rows in another order, in {:.1} s",
-        both.calls(),
-        started.elapsed().as_secs_f64()
-    );
-    all_came(&both.tally().missing_shuffled())
 }

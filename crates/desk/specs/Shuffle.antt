@@ -30,8 +30,9 @@ replyTo to (Stretch d s) = Stretch d s
 replyTo to (Stepped a) = Stepped (renamed to a)
 replyTo to (Takers d l) = Takers d (map (takerTo to) l)
 
--- the theorem
+-- the theorem: "any sequence of .. calls gives the same answers with rows renamed, and ends in the same network with rows in that order"
 abbrev pub ShuffledWhole : Type 0
 ShuffledWhole =
     (net : List ℕ) → Bytes net → shape net ≡ true → (q : Shuffle (rows net)) (l : List Call)
-    → (replies (map (callTo (q .to)) l) (shuffled q net) ≡ map (replyTo (q .to)) (replies l net)) × (table (map (callTo (q .to)) l) (shuffled q net) ≡ shuffled q (table l net))
+    → (replies (map (callTo (q .to)) l) (shuffled q net) ≡ map (replyTo (q .to)) (replies l net))
+    × (table (map (callTo (q .to)) l) (shuffled q net) ≡ shuffled q (table l net))
