@@ -46,7 +46,8 @@ impl Shuffle {
             .map_or_else(|_| word.to_string(), |row| self.row(row).to_string())
     }
 
-    /// The network in that order; outside LOST its holder is renamed.
+    /// The network in that order; its holder, byte 5, is renamed where the phase, byte 4, is not
+    /// LOST.
     pub fn network(&self, bytes: &[u8]) -> Vec<u8> {
         let mut shuffled = bytes.to_vec();
         if bytes[4] != 0 {
@@ -88,15 +89,13 @@ impl Shuffle {
             }
             (Some("lap"), ["DONE", total, takers @ ..]) => {
                 let mut text = format!("DONE {total}");
+                // An entry is an ID, a row and a count.
                 for (place, word) in takers.iter().enumerate() {
-                    // An entry is an ID, a row and a count.
-                    let row = place % 3 == 1;
                     text += " ";
-                    text += &if row {
-                        self.renamed(word)
-                    } else {
-                        word.to_string()
-                    };
+                    match place % 3 {
+                        1 => text += &self.renamed(word),
+                        _ => text += word,
+                    }
                 }
                 text
             }

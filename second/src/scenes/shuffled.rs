@@ -29,8 +29,11 @@ impl Player<'_> {
             self.loaded_network(rows)?;
             self.fill_ram()?;
         }
-        let network = self.both.lent().image().to_vec();
         let rows = self.rows();
+        if rows == 0 {
+            return Ok(());
+        }
+        let network = self.both.lent().image().to_vec();
         let shuffle = Shuffle::any(&mut self.rng, rows);
         self.put(&network)?;
         self.both.listen()?;
@@ -94,25 +97,22 @@ impl Player<'_> {
 
 /// The calls of the first time up to the one that is answered otherwise in the other order.
 fn difference(shuffle: &Shuffle, first: &[Heard], other: &Heard) -> String {
-    let shown = &first[first.len().saturating_sub(SHOWN)..];
-    let wanted = first
-        .last()
-        .map(|last| shuffle.answer(&last.line, &last.answer));
     let mut text = String::new();
-    for Heard { line, answer } in shown {
+    for Heard { line, answer } in &first[first.len().saturating_sub(SHOWN)..] {
         text += &format!("> {line}\n  {}\n", shortened(answer));
     }
-    text += &format!(
-        "in another order (row {}):\n> {}\n",
-        shuffle.text(),
-        other.line
-    );
-    let wanted = wanted.unwrap_or_default();
-    let at = (0..wanted.len()).find(|at| wanted.get(..=*at) != other.answer.get(..=*at));
+    let wanted = first
+        .last()
+        .map(|last| shuffle.answer(&last.line, &last.answer))
+        .unwrap_or_default();
+    let alike = wanted.bytes().zip(other.answer.bytes());
+    let alike = alike.take_while(|(wanted, came)| wanted == came).count();
     text + &format!(
-        "  {}\nand not\n  {}\nfrom character {} on",
+        "in another order (row {}):\n> {}\n  {}\nand not\n  {}\nfrom character {} on",
+        shuffle.text(),
+        other.line,
         shortened(&other.answer),
         shortened(&wanted),
-        at.unwrap_or(wanted.len()) + 1
+        alike + 1
     )
 }
