@@ -10,6 +10,7 @@ pub mod OfTable
 pub mod OfLine
 pub mod OfDesk
 pub mod OfWords
+pub mod OfHost
 pub mod Sums
 pub mod Promises
 pub mod Station

@@ -41,6 +41,10 @@ module _ (T : Ended) where
   abbrev pub Once : Asks → Tells → Type 0
   Once = OnceBy (λ κs x x′. x ≡ x′)
 
+  -- what is said of every outcome that meets the `ensures`
+  abbrev pub Says : ((κs : K) (a : A κs) → R κs → Lasts T κs a → Type 0) → Tells → Type 0
+  Says That Learnt = (κs : K) (a : A κs) (x : R κs) (w : Lasts T κs a) → Learnt κs a x (atExit T κs a w) → That κs a x w
+
 -- a stretch of lent bytes that is handed back: the same bytes and, where there are any, at the same place
 abbrev pub SamePart : RefT (List ℕ) → RefT (List ℕ) → Type 0
 SamePart x x′ = (now x ≡ now x′) × ((now x ≡ [] → ⊥) → x .ptr ≡ x′ .ptr)
