@@ -12,6 +12,7 @@ pub struct Shuffle {
 }
 
 impl Shuffle {
+    /// The order with these places.
     #[cfg(test)]
     pub fn to(places: &[usize]) -> Shuffle {
         Shuffle {

@@ -71,7 +71,7 @@ unfoldable pub table : List Call → List ℕ → List ℕ
 table [] net = net
 table (c ∷ l) net = table l (called c net)
 
--- the number of a reply, 0 where the call was not refused; a refused page reader gives a stretch of length 0
+-- the number of a reply, 0 where the call was not refused; the page reader tells none, and its number is a call of its own
 abbrev pub replyNumber : Reply → ℕ
 replyNumber (Number n) = n
 replyNumber (Register r) = r .number

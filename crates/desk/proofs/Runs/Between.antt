@@ -18,16 +18,16 @@ use Rattle.desk.specs.Host.{Call, At, Read, Write, Reset, Timer, Interru
 use Rattle.desk.specs.Demand.{Between, withStep}
 use Rattle.desk.proofs.Lapping.LapLeaves.{walk-refused}
 
-pub data Comes (net : List ℕ) : Call → Type 0 where
-  stepping : Comes net (Step 0)
-  calmly : {c : Call} → Calm net (called c net) → ((l : List Answer) → withStep (replied c net) l ≡ l) → Comes net c
+pub data MayCome (net : List ℕ) : Call → Type 0 where
+  stepping : MayCome net (Step 0)
+  calmly : {c : Call} → Calm net (called c net) → ((l : List Answer) → withStep (replied c net) l ≡ l) → MayCome net c
 
 module _ (net : List ℕ) (s : shape net ≡ true) (b : Rams net) where
   -- a call that changes nothing
-  idle : (c : Call) → called c net ≡ net → ((l : List Answer) → withStep (replied c net) l ≡ l) → Comes net c
+  idle : (c : Call) → called c net ≡ net → ((l : List Answer) → withStep (replied c net) l ≡ l) → MayCome net c
   idle c e w = calmly {c = c} (rw e (calm-same net s b)) w
 
-  pub comes : (c : Call) → (replyNumber (replied c net) ≡ 0 → Between c) → SameNodes net (called c net) → Comes net c
+  pub comes : (c : Call) → (replyNumber (replied c net) ≡ 0 → Between c) → SameNodes net (called c net) → MayCome net c
   unfolding lapped
   comes (At k (Read g)) h n = calmly (calm-read net s b k g) (λ l. refl)
   comes (At k (Write g v x)) h n = calmly (calm-write net s b k g v x n) (λ l. refl)

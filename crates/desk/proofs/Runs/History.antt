@@ -21,7 +21,7 @@ use Rattle.desk.proofs.Runs.Steps.{seen}
 use Rattle.desk.proofs.Runs.Shows.{on, Shows}
 use Rattle.desk.proofs.Runs.Follow.{follow}
 use Rattle.desk.proofs.Runs.InRows.{ToNodes}
-use Rattle.desk.proofs.Runs.Between.{Comes, stepping, calmly, comes}
+use Rattle.desk.proofs.Runs.Between.{MayCome, stepping, calmly, comes}
 
 -- the nodes of two networks are those of a third
 pub nodes-between : (start net new : List ℕ) → SameNodes start net → SameNodes start new → SameNodes net new
@@ -76,7 +76,7 @@ module _ (start : List ℕ) (s : shape start ≡ true) where
   count-step now f l = rw (step-done now f)
 
   -- one call more
-  onward : (now : List ℕ) {c : Call} → Comes now c → (l : List Call) (t : Ring)
+  onward : (now : List ℕ) {c : Call} → MayCome now c → (l : List Call) (t : Ring)
       → ((r : Ring) (m : List ring.Telling) → Runs (on start s) r m t → steps l (called c now) ≡ length m → Shows start s (called c now) r → Went (called c now) l m t)
       → {r : Ring} {m : List ring.Telling} → Runs (on start s) r m t → steps (c ∷ l) now ≡ length m → Shows start s now r → Went now (c ∷ l) m t
   unfolding answersOf

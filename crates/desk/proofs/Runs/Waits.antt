@@ -25,7 +25,7 @@ use Rattle.line.proofs.Steps.StepIs.{step-done}
 use Rattle.desk.proofs.Runs.Steps.{seen}
 use Rattle.desk.proofs.Runs.Shows.{on, Shows}
 use Rattle.desk.proofs.Runs.Back as back
-use Rattle.desk.proofs.Runs.Between.{Comes, stepping, calmly, comes}
+use Rattle.desk.proofs.Runs.Between.{MayCome, stepping, calmly, comes}
 use Rattle.desk.proofs.Runs.History.{nodes-between, Went, went-calmly, went-step, count-step, went}
 
 module _ (start : List ℕ) (s : shape start ≡ true) (b : Rams start) (lost : phase start ≡ LOST) (two : 2 ≤ nodes start) where
@@ -120,7 +120,7 @@ module _ (start : List ℕ) (s : shape start ≡ true) (b : Rams start) (lost : 
     abbrev pub Lapped : List Call → List ℕ → Type 0
     Lapped l now = Went start s now l (Spoke ∷ m) t × From (Recovered (highest start)) (answersOf l now)
 
-    onward : (now : List ℕ) {c : Call} → Comes now c → steps (c ∷ l) now ≡ suc (length m) → Waits now → Throughout start l (called c now)
+    onward : (now : List ℕ) {c : Call} → MayCome now c → steps (c ∷ l) now ≡ suc (length m) → Waits now → Throughout start l (called c now)
         → (steps l (called c now) ≡ suc (length m) → Waits (called c now) → Lapped l (called c now)) → Lapped (c ∷ l) now
     unfolding answersOf
     onward now stepping e w h rest =

@@ -1,17 +1,15 @@
 -- C-24: any call of a network and of its rows in another order, and so any sequence of calls.
 -- Assumes nothing.
 use mathlib.Core.Path.{_≡_, refl, _∙_, ap}
-use mathlib.Core.Bool.{Bool}
+use mathlib.Core.Bool.{Bool, true}
 use mathlib.Core.List.{List, [], _∷_, map}
-use Prim.Native.Nat.{ℕ, _<_}
-use native.Mathlib.Omega.{arith}
-use lib.Dec.{lit<}
-use Rattle.table.specs.Network.{rows, OnlyRow}
+use Prim.Native.Nat.{ℕ}
+use Rattle.table.specs.Network.{shape, OnlyRow}
 use Rattle.table.specs.Shuffle.{Shuffle, shuffled}
-use Rattle.table.proofs.Shaped.Alike.{Good, bytes-rams}
+use Rattle.table.proofs.Shaped.Alike.{Rams, Good, bytes-rams}
 use Rattle.table.proofs.Access.ShapeCalls.{shape-read, shape-write, shape-reset, shape-timer}
 use Rattle.table.proofs.Access.RamsKept.{rams-read, rams-write, rams-reset, rams-timer}
-use Rattle.table.proofs.Access.Others.{read-only, write-only, reset-only, timer-only}
+use Rattle.table.proofs.Access.Others.{only-rows, read-only, write-only, reset-only, timer-only}
 use Rattle.table.proofs.Shuffled.Rows.{shuffled-at}
 use Rattle.table.proofs.Shuffled.Shapes.{ends-at}
 use Rattle.table.proofs.Shuffled.Calls.{place-number-shuffled, reading-shuffled, read-shuffled, write-number-shuffled, write-shuffled, reset-shuffled, timer-number-shuffled, timer-shuffled, interrupt-shuffled, data-shuffled, data-number-shuffled}
@@ -22,15 +20,15 @@ use Rattle.desk.specs.Host.{Call, At, Read, Write, Reset, Timer, Interru
 use Rattle.desk.specs.Shuffle.{callTo, replyTo, ShuffledWhole}
 use Rattle.desk.proofs.Lapping.Shuffled.{good-step, good-lap, lapped-shuffled, lap-shuffled, entries-shuffled}
 
-same-rows : {net new : List ℕ} {k : ℕ} {moves : ℕ → Bool} → OnlyRow net new k moves → rows new ≡ rows net
-same-rows o = o .frame .header 3 (lit< tt) (λ e. omega arith) (λ e. omega arith)
+-- a call leaves a network that the next may be made of, where it leaves all rows but one
+good-row : {n k : ℕ} {net new : List ℕ} {moves : ℕ → Bool} → Good n net → OnlyRow net new k moves → shape new ≡ true → Rams new → Good n new
+good-row g o s b = record { fits = s; rams = b; count = only-rows o ∙ g .count }
 
--- a call leaves a network that the next may be made of
 good-called : {n : ℕ} (net : List ℕ) → Good n net → (c : Call) → Good n (called c net)
-good-called net g (At k (Read r)) = record { fits = shape-read net (g .fits) k r; rams = rams-read net (g .fits) (g .rams) k r; count = same-rows (read-only net k r) ∙ g .count }
-good-called net g (At k (Write r v b)) = record { fits = shape-write net (g .fits) k r v; rams = rams-write net (g .fits) (g .rams) k r v b; count = same-rows (write-only net k r v) ∙ g .count }
-good-called net g (At k Reset) = record { fits = shape-reset net (g .fits) k; rams = rams-reset net (g .fits) (g .rams) k; count = same-rows (reset-only net k) ∙ g .count }
-good-called net g (At k Timer) = record { fits = shape-timer net (g .fits) k; rams = rams-timer net (g .fits) (g .rams) k; count = same-rows (timer-only net k) ∙ g .count }
+good-called net g (At k (Read r)) = good-row g (read-only net k r) (shape-read net (g .fits) k r) (rams-read net (g .fits) (g .rams) k r)
+good-called net g (At k (Write r v b)) = good-row g (write-only net k r v) (shape-write net (g .fits) k r v) (rams-write net (g .fits) (g .rams) k r v b)
+good-called net g (At k Reset) = good-row g (reset-only net k) (shape-reset net (g .fits) k) (rams-reset net (g .fits) (g .rams) k)
+good-called net g (At k Timer) = good-row g (timer-only net k) (shape-timer net (g .fits) k) (rams-timer net (g .fits) (g .rams) k)
 good-called net g (At k Interrupt) = g
 good-called net g (At k (Data p)) = g
 good-called net g (At k (DataNumber p)) = g

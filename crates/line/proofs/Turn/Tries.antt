@@ -19,7 +19,7 @@ use Rattle.registers.proofs.Values.Ends.{transmit-page-small}
 use Rattle.table.specs.Rows.{rowAt, setRow}
 use Rattle.table.specs.Network.{rows, regsAt, nodeOf, shape}
 use Rattle.line.specs.Traffic.{onRow, broadcastTurn, enquiryTurn, tryTurn, takenTurn}
-use Rattle.table.proofs.Rows.Starts.{frame-byte}
+use Rattle.table.proofs.Rows.Starts.{frame-rows}
 use Rattle.table.proofs.Rows.WithRows.{rowAt-setRow, setRow-frame}
 use Rattle.table.proofs.Shaped.Shapes.{shape-room, shape-row-whole}
 use Rattle.line.proofs.Change.Changes.{Cancels, Does}
@@ -73,7 +73,7 @@ module _ (net : List ℕ) (s : shape net ≡ true) (h : ℕ) (l : h < rows net) 
 
   pub cancels-ready : (page : ℕ) → page ≡ transmitPage g → (shape x ≡ true) × ((h < rows x) × (page < 4))
   cancels-ready page e =
-      let n : rows x ≡ rows net = ap rows ex ∙ frame-byte (setRow-frame net (rows net) (shape-room net s) h l _ (size-put (rowAt net h) g)) 3 (omega arith) in
+      let n : rows x ≡ rows net = ap rows ex ∙ frame-rows (setRow-frame net (rows net) (shape-room net s) h l _ (size-put (rowAt net h) g)) in
       (rw after-cancels (shape-done net h s l (Does Cancels) tt), (omega arith, rw e (transmit-page-small g)))
 
   module _ (b : Bool) (eb : b ≡ transmitting g) where

@@ -36,6 +36,10 @@ use Rattle.table.proofs.Access.Placed.{read-placed, write-placed, timer
 use Rattle.table.proofs.Access.Refused.{write-refused, reset-refused, timer-refused}
 use Rattle.table.proofs.Access.Beside.{Beside, read-beside, write-beside, reset-beside, timer-beside}
 
+-- a network whose other rows are as they were has as many rows
+pub only-rows : {net new : List ℕ} {k : ℕ} {moves : ℕ → Bool} → OnlyRow net new k moves → rows new ≡ rows net
+only-rows o = o .frame .header 3 (omega arith) (λ e. omega arith) (λ e. omega arith)
+
 -- ---- row k after a call, of a well-formed network that has it
 module _ (net : List ℕ) (s : shape net ≡ true) (k : ℕ) (l : k < rows net) where
   abbrev row : List ℕ

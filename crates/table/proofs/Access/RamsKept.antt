@@ -6,7 +6,7 @@ use mathlib.Core.List.{List}
 use mathlib.Core.Logic.{⊎-elim}
 use Prim.Native.Nat.{ℕ, _≤_, _<_}
 use native.Mathlib.Omega.{arith}
-use lib.Dec.{eqb, lit<}
+use lib.Dec.{eqb}
 use lib.ListN.{length}
 use borrow.Author.Tests.{eqb-true, eqb-false}
 use Rattle.bits.proofs.Words.Bools.{cases, pick-of}
@@ -25,7 +25,7 @@ use Rattle.card.proofs.Pages.Packets.{Ram}
 use Rattle.table.specs.Rows.{rowStart, rowAt, setRow}
 use Rattle.table.specs.Network.{rows, LOST, turned, onRegs, regsAt, onLineAt, shape}
 use Rattle.table.specs.Calls.{placeNumber, netReadNumber, netAfterRead, isHolder, settled, netWriteNumber, netAfterWrite, netAfterReset, timerNumber, netAfterTimer}
-use Rattle.table.proofs.Rows.Starts.{frame-byte, frame-within}
+use Rattle.table.proofs.Rows.Starts.{frame-rows, frame-within}
 use Rattle.table.proofs.Rows.WithRows.{row-whole, rowAt-setRow, rowAt-setRow-other, setRow-frame}
 use Rattle.table.proofs.Rows.Networks.{rowAt-turned, rows-turned}
 use Rattle.table.proofs.Shaped.Shapes.{shape-room, shape-row-whole}
@@ -40,7 +40,7 @@ rams-turned net p h b k l = rw (rowAt-turned net p h k) (b k (omega (arith, rows
 module _ (net : List ℕ) (w : rowStart net (rows net) ≤ length net) (b : Rams net) (k : ℕ) (l : k < rows net) where
   rams-set : (r : List ℕ) → SameSize (rowAt net k) r → Ram r × (regsOf r .id < 256) → Rams (setRow net k r)
   rams-set r e h j m =
-      let lj : j < rows net = omega (arith, frame-byte (setRow-frame net (rows net) w k l r e) 3 (lit< tt)) in
+      let lj : j < rows net = omega (arith, frame-rows (setRow-frame net (rows net) w k l r e)) in
       ⊎-elim (λ (t : eqb j k ≡ true). rw (eqb-true j k t, rowAt-setRow net (rows net) w k l r e) h)
       (λ (t : eqb j k ≡ false). rw (rowAt-setRow-other net (rows net) w k l r e j lj (eqb-false j k t)) (b j lj)) (cases (eqb j k))
 
@@ -69,7 +69,7 @@ module _ (net : List ℕ) (s : shape net ≡ true) (b : Rams net) (k : ℕ) wher
   settles z x e h =
       let w = shape-room net s in
       let f = setRow-frame net (rows net) w k (there z) x e in
-      let n = frame-byte f 3 (lit< tt) in
+      let n = frame-rows f in
       rams-settled (setRow net k x) (rw n (frame-within f w)) (rams-set net w b k (there z) x e h) k (rw n (there z)) (onLineAt net k)
 
   pub rams-read : (g : ℕ) → Rams (netAfterRead net k g)

@@ -10,6 +10,7 @@ use lib.ListN.{length, getD, set, take, drop}
 use lib.Seq.{length-take-le, drop-drop, drop-set-lt, take-set-lt, set-append-left, getD-take}
 use Rattle.card.specs.Row.{rowSize}
 use Rattle.table.specs.Rows.{headerBytes, rowStart, rowAt, setRow}
+use Rattle.table.specs.Network.{rows}
 
 -- numbers of which none is less than the one before it
 mono : (st : ℕ → ℕ) → ((k : ℕ) → st k ≤ st (suc k)) → (j n : ℕ) → j ≤ n → st j ≤ st n
@@ -49,6 +50,9 @@ frame-ends {n = n} f h = omega (arith, f .size, f .starts n (omega arith))
 
 pub frame-byte : {net new : List ℕ} {n : ℕ} → Frame net new n → (x : ℕ) → x < headerBytes → getD new x 0 ≡ getD net x 0
 frame-byte {net} {new} f x l = sym (getD-take headerBytes new x 0 l) ∙ ap (λ (h : List ℕ). getD h x 0) (f .header) ∙ getD-take headerBytes net x 0 l
+
+pub frame-rows : {net new : List ℕ} {n : ℕ} → Frame net new n → rows new ≡ rows net
+frame-rows f = frame-byte f 3 (omega arith)
 
 -- ---- another header: the rows are a function of what lies after it
 module _ (net new : List ℕ) (e : drop headerBytes new ≡ drop headerBytes net) where

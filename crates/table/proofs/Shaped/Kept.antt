@@ -16,7 +16,7 @@ use Rattle.card.proofs.Rows.Sizes.{SameSize}
 use Rattle.table.specs.Rows.{headerBytes, rowAt, setRow}
 use Rattle.table.specs.Network.{rows, phase, holder, LOST, turned, regsAt, onLineAt, isNode, shape}
 use Rattle.table.proofs.Folds.{clash}
-use Rattle.table.proofs.Rows.Starts.{Frame, frame-ends, frame-byte}
+use Rattle.table.proofs.Rows.Starts.{Frame, frame-ends, frame-byte, frame-rows}
 use Rattle.table.proofs.Rows.WithRows.{rowAt-setRow, rowAt-setRow-other, setRow-frame}
 use Rattle.table.proofs.Rows.Networks.{length-turned, start-turned, rowAt-turned, turned-other, rows-turned, phase-turned, holder-turned}
 use Rattle.table.proofs.Online.Nodes.{online-same, node-of}
@@ -39,7 +39,7 @@ pub record Became (R : List ℕ → List ℕ → Type 0) (net new : List ℕ) : 
 
 module _ {R : List ℕ → List ℕ → Type 0} {net new : List ℕ} (c : Became R net new) where
   pub became-rows : rows new ≡ rows net
-  became-rows = frame-byte (c .frame) 3 (lit< tt)
+  became-rows = frame-rows (c .frame)
 
   pub became-phase : phase new ≡ phase net
   became-phase = frame-byte (c .frame) 4 (lit< tt)
