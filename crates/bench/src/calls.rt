@@ -4,12 +4,13 @@ ghost use Prim.Native.Nat.{_≤_};
 ghost use lib.ListN.{length};
 ghost use Rattle.words.specs.Hex.{unhex};
 ghost use Rattle.table.specs.Network.{rowLimit};
-ghost use Rattle.desk.specs.Load.{loadNumber, netAfterLoad};
+ghost use Rattle.desk.specs.Load.{loading, netAfterLoad};
 ghost use Rattle.desk.specs.Lap.{netAfterLap};
 ghost use Rattle.prompt.specs.Input.{LINE};
 ghost use Rattle.bench.specs.Calls.{shapeNumber, inside, poked, wideNumber, valueNumber, netAfterValue};
 use desk::laps::Taker;
 use desk::laps::Walked;
+use orders::check::Checked;
 use print::gather::ROOM;
 use print::gather::end;
 use print::gather::number;
@@ -56,9 +57,9 @@ pub(crate) fn poke(net: &mut [u8], at: usize, digits: &[u8]) -> bool
 }
 
 // The network is made anew from the order that the digits spell.
-pub(crate) fn load(net: &mut [u8], digits: &[u8]) -> u8
+pub(crate) fn load(net: &mut [u8], digits: &[u8]) -> Checked
     requires { ⌜ length (now digits) ≤ LINE ⌝ }
-    ensures number { λ r. ⌜ r ≡ loadNumber (unhex (now (digits .entry))) (now (net .entry)) ⌝ }
+    ensures told { λ r. ⌜ r ≡ loading (unhex (now (digits .entry))) (now (net .entry)) ⌝ }
     ensures bytes { λ _. ⌜ now (net .exit) ≡ netAfterLoad (unhex (now (digits .entry))) (now (net .entry)) ⌝ }
 {
     let n = digits.len() / 2;

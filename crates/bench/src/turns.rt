@@ -99,7 +99,7 @@ fn on_bytes(net: &mut [u8], line: &[u8], q: Call) -> Told
     match call {
         POKE => poke(net, q.a, word(line, 2)),
         FRESH => answers::numbered(table::calls::fresh(net, q.a)),
-        _ => answers::numbered(calls::load(net, word(line, 1))),
+        _ => answers::checked(calls::load(net, word(line, 1))),
     }
 }
 

@@ -1,4 +1,3 @@
-pub mod Forms
 pub mod Loads
 pub mod ById
 pub mod Runs

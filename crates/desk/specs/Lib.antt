@@ -1,4 +1,3 @@
-pub mod Order
 pub mod Load
 pub mod Lap
 pub mod Host

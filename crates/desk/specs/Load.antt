@@ -6,9 +6,11 @@ use Prim.Native.Nat.{ℕ, zero, suc}
 use lib.Dec.{eqb}
 use lib.ListN.{length}
 use Rattle.bits.specs.Words.{pick, has}
-use Rattle.told.specs.Numbers.{ROOM, ORDER, Refusal, _when_, told}
+use Rattle.told.specs.Numbers.{ROOM, Refusal, _when_, toldAfter}
 use Rattle.table.specs.Calls.{exactLength, netAfterWrite, netAfterFresh}
-use Rattle.desk.specs.Order.{records, recordAt, idAt, flagsOf, RECEIVE, LONG, orderFits}
+use Rattle.orders.specs.declared.check.Checked.{Checked}
+use Rattle.orders.specs.Form.{records, recordAt, idAt, flagsOf, RECEIVE, LONG}
+use Rattle.orders.specs.Check.{tells, checked}
 
 -- "per row in order: configuration 19, node ID, command 0D if long, command 84 if receive on, configuration 38": each is the register write itself
 abbrev pub set19 : List ℕ → ℕ → List ℕ
@@ -34,16 +36,16 @@ unfoldable pub loadedRows : List ℕ → List ℕ → ℕ → List ℕ
 loadedRows order net zero = net
 loadedRows order net (suc k) = loadedRow (loadedRows order net k) k (idAt order k) (flagsOf (recordAt order k))
 
--- "14 ORDER: order not as above"; "13 ROOM: .. loaded network not of exact length". The one list that does not rise: "The smallest number wins, but loading
--- tests ORDER before ROOM"
+-- "13 ROOM: .. loaded network not of exact length"
 abbrev pub roomRefusals : List ℕ → List ℕ → List Refusal
 roomRefusals order net = ROOM when not (eqb (length net) (exactLength (records order))) ∷ []
 
-unfoldable pub loadRefusals : List ℕ → List ℕ → List Refusal
-loadRefusals order net = ORDER when not (orderFits order) ∷ roomRefusals order net
+-- C-12, "all before ROOM": what is told of the order stands, and ROOM names no record. The one call whose smallest number need not win
+unfoldable pub loading : List ℕ → List ℕ → Checked
+loading order net = tells (toldAfter (checked order .number) (roomRefusals order net)) (checked order .bad)
 
-unfoldable pub loadNumber : List ℕ → List ℕ → ℕ
-loadNumber order net = told (loadRefusals order net)
+abbrev pub loadNumber : List ℕ → List ℕ → ℕ
+loadNumber order net = loading order net .number
 
 -- "Loading does so with a row for each record": the fresh call, and then the rows
 unfoldable pub netAfterLoad : List ℕ → List ℕ → List ℕ

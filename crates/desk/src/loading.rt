@@ -3,17 +3,17 @@ ghost use mathlib.Core.Path.{_≡_};
 ghost use mathlib.Core.Bool.{true};
 ghost use Prim.Native.Nat.{_<_};
 ghost use Rattle.table.specs.Network.{rows, shape};
-ghost use Rattle.desk.specs.Load.{loadedRow, loadNumber, netAfterLoad};
-use crate::orders::LONG;
-use crate::orders::RECEIVE;
-use crate::orders::flags_at;
-use crate::orders::id_at;
-use crate::orders::order_fits;
-use crate::orders::records;
+ghost use Rattle.desk.specs.Load.{loadedRow, loading, netAfterLoad};
+use orders::check::Checked;
+use orders::check::check;
+use orders::form::LONG;
+use orders::form::RECEIVE;
+use orders::form::flags_at;
+use orders::form::id_at;
+use orders::form::records;
 use table::calls::fresh;
 use table::calls::write_on;
 use told::numbers::DONE;
-use told::numbers::ORDER;
 
 // The registers that are written.
 const COMMAND: usize = 1;
@@ -50,22 +50,23 @@ fn load_row(net: &mut [u8], k: usize, id: u8, flags: u8)
 }
 
 // The network is made anew from the order, a row for each record: row k carries record k's ID.
-pub fn load(order: &[u8], net: &mut [u8]) -> u8
-    ensures number { λ r. ⌜ r ≡ loadNumber (now (order .entry)) (now (net .entry)) ⌝ }
+pub fn load(order: &[u8], net: &mut [u8]) -> Checked
+    ensures told { λ r. ⌜ r ≡ loading (now (order .entry)) (now (net .entry)) ⌝ }
     ensures bytes { λ _. ⌜ now (net .exit) ≡ netAfterLoad (now (order .entry)) (now (net .entry)) ⌝ }
 {
-    if !order_fits(order) {
-        return ORDER;
+    let checked = check(order);
+    if checked.number != DONE {
+        return checked;
     }
     let n = records(order);
     let number = fresh(net, n);
     if number != DONE {
-        return number;
+        return Checked { number, bad: 0 };
     }
     let mut k = 0;
     while k < n {
         load_row(net, k, id_at(order, k), flags_at(order, k));
         k += 1;
     }
-    DONE
+    checked
 }

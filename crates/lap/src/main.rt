@@ -1,19 +1,22 @@
 // The program `lap` (document 01, "Order forms and the lap"): reads an order on standard input, loads it, runs a lap
-// and prints the takers in the order in which they took the token; or the refusal's number.
+// and prints the takers in the order in which they took the token; or the refusal's number, with the record that it
+// names (C-12), and on standard error what is wrong.
+mod clerk;
+
 ghost use mathlib.Core.Path.{_≡_};
 ghost use lib.ListN.{length};
 ghost use Prim.Native.Nat.{_+_, _*_, _≤_};
 ghost use Rattle.table.specs.Network.{rowLimit};
 ghost use Rattle.table.specs.Calls.{exactLength};
 ghost use Rattle.desk.specs.Lap.{lapped, netAfterLap, listAfterLap, nobody};
-ghost use Rattle.desk.specs.Order.{recordBytes};
+ghost use Rattle.orders.specs.Form.{recordBytes};
 use desk::laps::Lapped;
 use desk::laps::Taker;
 use desk::laps::nobody;
-use desk::orders::RECORD;
-use desk::orders::name_at;
-use desk::orders::records;
 use libc::STDIN_FILENO;
+use orders::form::RECORD;
+use orders::form::name_at;
+use orders::form::records;
 use table::calls::LONGEST;
 use table::calls::exact_length;
 use table::network::ROWS;
@@ -38,9 +41,12 @@ fn lap_list(net: &mut [u8]) -> Listed
     Listed { lapped, list }
 }
 
-fn refuse(number: u8) {
+fn refuse(number: u8, bad: usize) {
     print::text(b"REFUSED");
     print::number(number as usize);
+    if bad != 0 {
+        print::number(bad);
+    }
     print::text(b"\n");
 }
 
@@ -76,14 +82,16 @@ fn answer(order: &[u8], net: &mut [u8])
 {
     let n = records(order);
     let size = exact_length(n);
-    let number = desk::loading::load(order, &mut net[0..size]);
-    if number != 0 {
-        refuse(number);
+    let checked = desk::loading::load(order, &mut net[0..size]);
+    if checked.number != 0 {
+        refuse(checked.number, checked.bad);
+        clerk::unfit(order, checked);
         return;
     }
     let l = lap_list(&mut net[0..size]);
     if l.lapped.number != 0 {
-        refuse(l.lapped.number);
+        refuse(l.lapped.number, 0);
+        clerk::alone();
         return;
     }
     takers(order, l, n);

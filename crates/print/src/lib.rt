@@ -1,4 +1,5 @@
 // Text on standard output, for the programs.
+pub mod aside;
 pub mod gather;
 
 use libc::STDOUT_FILENO;

@@ -1,20 +1,22 @@
 -- C-20: a line step never answers 11, because SHAPE comes first, nor does any other call.
 -- Assumes nothing.
-use mathlib.Core.Path.{_≡_, sym, _∙_}
+use mathlib.Core.Path.{_≡_, sym, _∙_, ap}
 use mathlib.Core.Bool.{true, false, false≢true}
 use mathlib.Core.List.{List}
 use mathlib.Core.Logic.{⊎-elim}
 use Prim.Native.Nat.{ℕ}
-use native.Mathlib.Omega.{arith}
 use lib.Dec.{eqb}
 use borrow.Author.Tests.{eqb-false}
+use Rattle.bits.specs.Words.{among}
 use Rattle.bits.proofs.Words.Bools.{cases}
 use Rattle.told.proofs.Told.Smallest.{numbers-rise, never-11}
 use Rattle.table.specs.Network.{phase, LOST, shape}
 use Rattle.table.proofs.Shaped.Shapes.{shape-holder}
 use Rattle.line.proofs.Steps.Refused.{step-shadowed}
-use Rattle.desk.specs.Order.{orderFits}
+use Rattle.orders.specs.Form.{orderFits}
+use Rattle.orders.proofs.Checks.Fit.{orderNumbers, order-number}
 use Rattle.desk.specs.Load.{loadNumber}
+use Rattle.desk.proofs.Loads.Loaded.{number}
 use Rattle.promises.specs.Promises.{holderOffLine, NumberEleven}
 use Rattle.promises.proofs.Rising.{smallest-wins}
 
@@ -29,7 +31,8 @@ shape-first net h = ⊎-elim (λ s. absurd (false≢true (sym (holder-on-line ne
 
 load-never : (order net : List ℕ) → loadNumber order net ≡ 11 → ⊥
 load-never order net e =
-    ⊎-elim (λ o. never-11 _ _ (smallest-wins .load-room order net o) e) (λ o. omega (arith, smallest-wins .load-order order net o, e)) (cases (orderFits order))
+    ⊎-elim (λ o. never-11 _ _ (smallest-wins .load-room order net o) e)
+    (λ o. false≢true (ap (among orderNumbers) (sym e ∙ ap number (smallest-wins .load-order order net o)) ∙ order-number order o)) (cases (orderFits order))
 
 pub number-eleven : NumberEleven
 number-eleven = record {

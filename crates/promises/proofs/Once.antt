@@ -9,5 +9,6 @@ pub mod Registers
 pub mod Card
 pub mod Table
 pub mod Line
+pub mod Orders
 pub mod Desk
 pub mod Words

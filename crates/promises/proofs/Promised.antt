@@ -21,6 +21,7 @@ use Rattle.desk.proofs.Loads.Loaded.{load-refused}
 use Rattle.desk.proofs.Lapping.LapLeaves.{walk-refused, lap-refused}
 use Rattle.desk.proofs.Theorems.Shuffling as desk
 use Rattle.promises.specs.Promises.{RefusalsChangeNothing, NoOtherByte, OutcomesSay, PlainRows, IdleFaults, Sizes, OneOutcome}
+use Rattle.promises.proofs.Records.{load-unnamed}
 use Rattle.promises.proofs.Once.Bits.{bits-once}
 use Rattle.promises.proofs.Once.Told.{told-once}
 use Rattle.promises.proofs.Once.Queues.{queues-once}
@@ -29,6 +30,7 @@ use Rattle.promises.proofs.Once.Registers.{registers-once}
 use Rattle.promises.proofs.Once.Card.{card-once}
 use Rattle.promises.proofs.Once.Table.{table-once}
 use Rattle.promises.proofs.Once.Line.{line-once}
+use Rattle.promises.proofs.Once.Orders.{orders-once}
 use Rattle.promises.proofs.Once.Desk.{desk-once}
 use Rattle.promises.proofs.Once.Words.{words-once}
 
@@ -42,7 +44,7 @@ refusals-change-nothing = record {
   page-data = data-refused;
   fresh = fresh-refused;
   step-of = step-refused;
-  load = load-refused;
+  load = λ order net u. (load-refused order net u, load-unnamed order net);
   walk = walk-refused;
   lap = lap-refused;
 }
@@ -74,4 +76,4 @@ pub shuffled-whole : ShuffledWhole
 shuffled-whole = desk.shuffled-whole
 
 pub one-outcome : OneOutcome
-one-outcome = record { bits = bits-once; told = told-once; queues = queues-once; commands = commands-once; registers = registers-once; card = card-once; table = table-once; line = line-once; desk = desk-once; words = words-once }
+one-outcome = record { bits = bits-once; told = told-once; queues = queues-once; commands = commands-once; registers = registers-once; card = card-once; table = table-once; line = line-once; orders = orders-once; desk = desk-once; words = words-once }

@@ -33,7 +33,7 @@ use Rattle.line.proofs.Steps.StepBy.{sound-step}
 use Rattle.line.proofs.Promised.Bystanding.{fills}
 use Rattle.line.proofs.Promised.TheHolder.{packet-reached}
 use Rattle.line.proofs.Promised.EveryRow.{step-moves, held-taken, not-own-packet}
-use Rattle.desk.specs.Order.{records, idAt, nameAt}
+use Rattle.orders.specs.Form.{records, idAt, nameAt}
 use Rattle.desk.proofs.Loads.Loaded.{loaded-rows, loaded-row}
 use Rattle.promises.specs.Station.{Stored, RamKept, StoredOrKept, Deliveries, Broadcasts, FromTheOrder}
 

@@ -8,9 +8,11 @@ pub mod OfRegisters
 pub mod OfCard
 pub mod OfTable
 pub mod OfLine
+pub mod OfOrders
 pub mod OfDesk
 pub mod OfWords
 pub mod OfHost
 pub mod Sums
 pub mod Promises
+pub mod WhichRecord
 pub mod Station

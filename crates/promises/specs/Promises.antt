@@ -10,7 +10,7 @@ use Rattle.bits.specs.Words.{among}
 use Rattle.registers.specs.Layout.{at-diagnostic, readChanges}
 use Rattle.registers.specs.Sides.{chaining}
 use Rattle.registers.specs.Plain.{Plain}
-use Rattle.told.specs.Numbers.{ORDER, numbers, Refusal, _when_, told, rises, Smallest}
+use Rattle.told.specs.Numbers.{numbers, Refusal, _when_, told, rises, Smallest}
 use Rattle.card.specs.Packets.{shapeOf, dataBytes, CanBeSent, malformed}
 use Rattle.card.specs.Moves.{OnlyAt}
 use Rattle.line.specs.declared.traffic.Outcome.{Outcome}
@@ -21,8 +21,9 @@ use Rattle.table.specs.Calls.{placeRefusals, placeNumber, netReadRefusals, netR
 use Rattle.line.specs.Step.{stepRefusals, step, answerNumber, answerValue, highest}
 use Rattle.line.specs.Outcomes.{stores, rowMoves, HolderLeft, PlainLeft, meets}
 use Rattle.desk.specs.declared.laps.Taker.{Taker}
-use Rattle.desk.specs.Order.{records, orderFits, idAt}
-use Rattle.desk.specs.Load.{roomRefusals, loadNumber, netAfterLoad}
+use Rattle.orders.specs.Form.{records, orderFits, idAt}
+use Rattle.orders.specs.Check.{recordRefusals, recordNumbers, recordNumber, checked}
+use Rattle.desk.specs.Load.{roomRefusals, loading, loadNumber, netAfterLoad}
 use Rattle.desk.specs.Lap.{nodes, after, answers, takers, lapSteps, lapRefusals, lapNumber, lapped, netAfterLap, lapTakers, listAfterLap}
 use Rattle.desk.specs.Host.{Call, table}
 use Rattle.desk.specs.Demand.{steps, answersOf, Throughout, LapOf, FirstLapOf}
@@ -34,10 +35,12 @@ use Rattle.promises.specs.OfRegisters.{OfRegisters}
 use Rattle.promises.specs.OfCard.{OfCard}
 use Rattle.promises.specs.OfTable.{OfTable}
 use Rattle.promises.specs.OfLine.{OfLine}
+use Rattle.promises.specs.OfOrders.{OfOrders}
 use Rattle.promises.specs.OfDesk.{OfDesk}
 use Rattle.promises.specs.OfWords.{OfWords}
 
--- ---- "A refusal returns 0, or length 0, beside its number, and no lent byte or entry changes": the number is a refusal's
+-- ---- "A refusal returns 0, or length 0, beside its number, and no lent byte or entry changes": the number is a refusal's. C-12: of loading, for the numbers that
+-- name a record, "demand 1's zero becomes the record number"
 abbrev pub Refused : ℕ → Type 0
 Refused n = n ≡ 0 → ⊥
 
@@ -50,11 +53,13 @@ pub record RefusalsChangeNothing : Type 0 where
   pub page-data : (net : List ℕ) (k p : ℕ) → Refused (netDataNumber net k p) → netData net k p ≡ []
   pub fresh : (net : List ℕ) (n : ℕ) → Refused (freshNumber net n) → netAfterFresh net n ≡ net
   pub step-of : (net : List ℕ) (fault : ℕ) → Refused (answerNumber (step net fault .answer)) → (step net fault .after ≡ net) × (answerValue (step net fault .answer) ≡ 0)
-  pub load : (order net : List ℕ) → Refused (loadNumber order net) → netAfterLoad order net ≡ net
+  pub load : (order net : List ℕ) → Refused (loadNumber order net)
+      → (netAfterLoad order net ≡ net) × (among recordNumbers (loadNumber order net) ≡ false → loading order net .bad ≡ 0)
   pub walk : (net : List ℕ) (room : ℕ) → Refused (lapNumber net room) → (lapped net room .total ≡ 0) × ((netAfterLap net room ≡ net) × (lapTakers net room ≡ []))
   pub lap : (net : List ℕ) (list : List Taker) → Refused (lapNumber net (length list)) → listAfterLap net list ≡ list
 
--- ---- "The smallest number wins, but loading tests ORDER before ROOM": each call's refusals, and the number that it tells
+-- ---- "The smallest number wins": each call's refusals, and the number that it tells. C-12: of an order the smallest of the record that is named, and "all before
+-- ROOM", whatever the network is
 pub record SmallestWins : Type 0 where
   pub read : (net : List ℕ) (k g : ℕ) → Smallest (netReadRefusals net k g) (netReading net k g .number)
   pub write : (net : List ℕ) (k g v : ℕ) → Smallest (netWriteRefusals net k g v) (netWriteNumber net k g v)
@@ -65,7 +70,8 @@ pub record SmallestWins : Type 0 where
   pub fresh : (net : List ℕ) (n : ℕ) → Smallest (freshRefusals net n) (freshNumber net n)
   pub step-of : (net : List ℕ) (fault : ℕ) → Smallest (stepRefusals net fault) (answerNumber (step net fault .answer))
   pub lap : (net : List ℕ) (room : ℕ) → Smallest (lapRefusals net room) (lapped net room .number)
-  pub load-order : (order net : List ℕ) → orderFits order ≡ false → loadNumber order net ≡ ORDER
+  pub of-record : (order : List ℕ) (k : ℕ) → Smallest (recordRefusals order k) (recordNumber order k)
+  pub load-order : (order net : List ℕ) → orderFits order ≡ false → loading order net ≡ checked order
   pub load-room : (order net : List ℕ) → orderFits order ≡ true → Smallest (roomRefusals order net) (loadNumber order net)
 
 -- ---- C-20, of number 11, document 01's "line step in PASS or TAKEN, holder not on line"
@@ -148,6 +154,7 @@ pub record OneOutcome : Type 0 where
   pub card : OfCard
   pub table : OfTable
   pub line : OfLine
+  pub orders : OfOrders
   pub desk : OfDesk
   pub words : OfWords
 

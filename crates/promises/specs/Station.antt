@@ -20,7 +20,7 @@ use Rattle.line.specs.declared.step.Answer.the-variants.{Held}
 use Rattle.line.specs.Traffic.{damaged}
 use Rattle.line.specs.Step.{step}
 use Rattle.line.specs.Outcomes.{sender, sentPage, sentShape, sentTo, addressee, stores}
-use Rattle.desk.specs.Order.{records, idAt, nameAt}
+use Rattle.orders.specs.Form.{records, idAt, nameAt}
 use Rattle.desk.specs.Load.{loadNumber, netAfterLoad}
 
 -- ---- row j of a network, before a step and after it

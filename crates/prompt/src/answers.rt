@@ -5,6 +5,7 @@ ghost use Rattle.print.specs.Gather.{lineOf, spaced};
 ghost use Rattle.prompt.specs.Answers.{DONE};
 use line::step::Answer;
 use line::traffic::Outcome;
+use orders::check::Checked;
 use print::gather::ROOM;
 use print::gather::end;
 use print::gather::number;
@@ -52,7 +53,7 @@ const ERROR: usize = 12;
 const DONE: usize = 21;
 
 // A line for each text. That of 11 is empty: no call tells it (C-20).
-const TEXTS: [u8; 647] = *b"QUIET\n\
+const TEXTS: [u8; 734] = *b"QUIET\n\
     TOKENLOST\n\
     RECOVERED\n\
     PASSED\n\
@@ -87,7 +88,12 @@ const TEXTS: [u8; 647] = *b"QUIET\n\
     \n\
     REFUSED 12 ALONE\n\
     REFUSED 13 ROOM\n\
-    REFUSED 14 ORDER\n";
+    REFUSED 14 LENGTH\n\
+    REFUSED 15 MARK\n\
+    REFUSED 16 ORDER-ID\n\
+    REFUSED 17 FLAGS\n\
+    REFUSED 18 NAME\n\
+    REFUSED 19 TWICE\n";
 
 pub fn tell(out: &mut [u8; ROOM], told: Told) {
     let words = part(&TEXTS, b'\n', told.text);
@@ -125,6 +131,15 @@ pub fn reading(reading: Reading) -> Told {
         text: DONE + reading.number as usize,
         valued: reading.number == 0,
         value: reading.value as usize,
+    }
+}
+
+// DONE, or the refusal of the number and the record that it names, if it names one (C-12).
+pub fn checked(checked: Checked) -> Told {
+    Told {
+        text: DONE + checked.number as usize,
+        valued: checked.bad != 0,
+        value: checked.bad,
     }
 }
 

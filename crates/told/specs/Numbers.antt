@@ -59,13 +59,30 @@ ALONE = 12
 abbrev pub ROOM : ℕ
 ROOM = 13
 
--- "order not as above"
-abbrev pub ORDER : ℕ
-ORDER = 14
+-- C-12, "14 becomes LENGTH 14, MARK 15, ORDER-ID 16, FLAGS 17, NAME 18, TWICE 19": what is wrong with an order
+abbrev pub LENGTH : ℕ
+LENGTH = 14
+
+abbrev pub MARK : ℕ
+MARK = 15
+
+abbrev pub ORDER-ID : ℕ
+ORDER-ID = 16
+
+abbrev pub FLAGS : ℕ
+FLAGS = 17
+
+abbrev pub NAME : ℕ
+NAME = 18
+
+abbrev pub TWICE : ℕ
+TWICE = 19
 
 -- the numbers that a refusal may have. C-20: 11 "is not given again"
 abbrev pub numbers : List ℕ
-numbers = SHAPE ∷ ROW ∷ REGISTER ∷ VALUE ∷ NOTREADY ∷ DIRECTION ∷ BUSY ∷ ONLINE ∷ PAGE ∷ DUPLICATE ∷ ALONE ∷ ROOM ∷ ORDER ∷ []
+numbers =
+    SHAPE ∷ ROW ∷ REGISTER ∷ VALUE ∷ NOTREADY ∷ DIRECTION ∷ BUSY ∷ ONLINE ∷ PAGE ∷ DUPLICATE ∷ ALONE ∷ ROOM
+    ∷ LENGTH ∷ MARK ∷ ORDER-ID ∷ FLAGS ∷ NAME ∷ TWICE ∷ []
 
 -- a refusal of a call: its number, and the test that says whether it holds
 infix 70 _when_

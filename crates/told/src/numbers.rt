@@ -1,4 +1,4 @@
-// Document 01, "Numbers a caller may get", and how a call's refusals make the one that is told.
+// Document 01, "Numbers a caller may get", with those of C-12, and how a call's refusals make the one that is told.
 ghost use mathlib.Core.Path.{_≡_};
 ghost use Rattle.told.specs.Numbers.{refuse};
 use bits::choice::choose;
@@ -30,7 +30,18 @@ pub const ALONE: u8 = 12;
 
 pub const ROOM: u8 = 13;
 
-pub const ORDER: u8 = 14;
+// What is wrong with an order (C-12).
+pub const LENGTH: u8 = 14;
+
+pub const MARK: u8 = 15;
+
+pub const ORDER_ID: u8 = 16;
+
+pub const FLAGS: u8 = 17;
+
+pub const NAME: u8 = 18;
+
+pub const TWICE: u8 = 19;
 
 // A refusal after those that gave n: an earlier number stands, else this one is told where its test holds.
 pub fn refuse(n: u8, number: u8, test: bool) -> u8

@@ -15,7 +15,7 @@ use Rattle.table.specs.Network.{rows, phase, LOST, regsAt, onLineAt, isNode, sh
 use Rattle.table.specs.Calls.{netWriteNumber, netAfterWrite}
 use Rattle.table.proofs.Online.Nodes.{online-is}
 use Rattle.table.proofs.Access.Writes.{Written, written-same, write-stays, write-joins}
-use Rattle.desk.specs.Order.{RECEIVE, LONG}
+use Rattle.orders.specs.Form.{RECEIVE, LONG}
 use Rattle.desk.specs.Load.{set19, setId, setLong, setReceive, set38, loadedRow}
 
 -- none of the five is refused; the two that depend on the flags would not be either where they are not made

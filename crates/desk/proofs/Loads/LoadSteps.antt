@@ -1,25 +1,27 @@
 -- Loading as the code goes: each write keeps SHAPE and the number of rows, whatever the rows were, and the calls put together give the network.
 -- Assumes nothing.
 use mathlib.Core.Path.{_≡_, refl, sym, _∙_, ap}
-use mathlib.Core.Bool.{Bool, true, false, not}
+use mathlib.Core.Bool.{Bool, true, false}
 use mathlib.Core.List.{List}
 use Prim.Native.Nat.{ℕ, zero, suc, _+_, _≤_, _<_}
 use native.Mathlib.Numerals.{add-one}
 use native.Mathlib.Omega.{arith}
 use lib.Bits.{bitAnd}
 use lib.ListN.{length}
-use borrow.Author.Tests.{eq-eqb, ne-eqb, not-true, not-false}
+use borrow.Author.Tests.{eq-eqb, ne-eqb}
 use Rattle.bits.specs.Words.{pick, has}
 use Rattle.table.specs.Network.{rows, shape}
 use Rattle.table.specs.Calls.{netAfterWrite, freshNumber, netAfterFresh, freshNet}
 use Rattle.table.proofs.Access.Fresh.{fresh-refused, fresh-room, fresh-net, header-fresh}
 use Rattle.table.proofs.Access.ShapeCalls.{shape-write, shape-fresh}
 use Rattle.table.proofs.Access.Beside.{beside-count, write-beside}
-use Rattle.told.specs.Numbers.{ORDER}
-use Rattle.desk.specs.Order.{records, recordAt, idAt, flagsOf, RECEIVE, LONG, orderFits}
-use Rattle.desk.specs.Load.{set19, setId, setLong, setReceive, loadedRow, loadedRows, loadNumber, netAfterLoad}
-use Rattle.desk.proofs.Forms.OrderLaws.{order-records}
-use Rattle.desk.proofs.Loads.Loaded.{load-order, load-room}
+use Rattle.told.specs.Numbers.{DONE}
+use Rattle.orders.specs.declared.check.Checked.{Checked}
+use Rattle.orders.specs.Form.{records, recordAt, idAt, flagsOf, RECEIVE, LONG, orderFits}
+use Rattle.orders.specs.Check.{tells, checked}
+use Rattle.orders.proofs.Checks.Fit.{fits-told, told-fits, order-records}
+use Rattle.desk.specs.Load.{set19, setId, setLong, setReceive, loadedRow, loadedRows, loading, loadNumber, netAfterLoad}
+use Rattle.desk.proofs.Loads.Loaded.{number, load-order, load-room, load-refused}
 
 -- `new` may be written where `net` may
 pub record Writable (net new : List ℕ) : Type 0 where
@@ -86,27 +88,31 @@ module _ (order net : List ℕ) where
       record { shaped = r .shaped; count = r .count ∙ h .count; long = r .long ∙ h .long }
 
 -- ---- the call
-module _ (order net : List ℕ) (f : Bool) (e : f ≡ orderFits order) where
-  pub is-unfit : not f ≡ true → (ORDER ≡ loadNumber order net) × (net ≡ netAfterLoad order net)
-  unfolding netAfterLoad
-  is-unfit h = let n = load-order order net (sym e ∙ not-true f h) in (sym n, rw n)
+module _ (order net : List ℕ) (c : Checked) (e : c ≡ checked order) where
+  pub is-unfit : (c .number ≡ DONE → ⊥) → (c ≡ loading order net) × (net ≡ netAfterLoad order net)
+  is-unfit u =
+      let l = e ∙ sym (load-order order net (λ z. u (ap number e ∙ z))) in
+      (l, sym (load-refused order net (λ z. u (ap number l ∙ z))))
 
-  module _ (h : not f ≡ false) (n : ℕ) (c : n ≡ records order) (m : ℕ) (p : m ≡ freshNumber net n) (x : List ℕ) (q : x ≡ netAfterFresh net n) where
+  module _ (h : c .number ≡ DONE) (n : ℕ) (q : n ≡ records order) (m : ℕ) (p : m ≡ freshNumber net n) (x : List ℕ) (r : x ≡ netAfterFresh net n) where
     fits : orderFits order ≡ true
-    fits = sym e ∙ not-false f h
+    fits = told-fits order (sym (ap number e) ∙ h)
 
-    number : m ≡ loadNumber order net
-    number =
+    told-is : tells m 0 ≡ loading order net
+    told-is =
         let b = order-records order fits in
-        p ∙ ap (freshNumber net) c ∙ fresh-room net (records order) (b .0) (b .1) ∙ sym (load-room order net fits)
+        ap (λ (i : ℕ). tells i 0) (p ∙ ap (freshNumber net) q ∙ fresh-room net (records order) (b .0) (b .1)) ∙ sym (load-room order net fits)
 
-    pub is-refused : (m ≡ 0 → ⊥) → (m ≡ loadNumber order net) × (x ≡ netAfterLoad order net)
+    number-is : m ≡ loadNumber order net
+    number-is = ap number told-is
+
+    pub is-refused : (m ≡ 0 → ⊥) → (tells m 0 ≡ loading order net) × (x ≡ netAfterLoad order net)
     unfolding netAfterLoad
-    is-refused u = (number, q ∙ sym (fresh-refused net n m p u .1) ∙ rw (← number, ne-eqb m 0 u))
+    is-refused u = (told-is, r ∙ sym (fresh-refused net n m p u .1) ∙ rw (← number-is, ne-eqb m 0 u))
 
     module _ (z : m ≡ 0) where
       made : x ≡ freshNet n
-      made = q ∙ fresh-net net n (sym p ∙ z)
+      made = r ∙ fresh-net net n (sym p ∙ z)
 
       pub at-row : (k : ℕ) → k < n → (y : List ℕ) → y ≡ loadedRows order x k → (shape y ≡ true) × (k < rows y)
       at-row k l y a =
@@ -115,6 +121,9 @@ module _ (order net : List ℕ) (f : Bool) (e : f ≡ orderFits order) where
           at-place x k (omega arith) y (loadedRows order x k) a
           (writable-rows order x (rw made (shape-fresh n (omega arith) (omega arith))) k (omega arith))
 
-      pub is-loaded : (k : ℕ) → k ≡ n → (y : List ℕ) → y ≡ loadedRows order x k → (0 ≡ loadNumber order net) × (y ≡ netAfterLoad order net)
+      pub is-loaded : (k : ℕ) → k ≡ n → (y : List ℕ) → y ≡ loadedRows order x k → (c ≡ loading order net) × (y ≡ netAfterLoad order net)
       unfolding netAfterLoad
-      is-loaded k l y a = (sym z ∙ number, a ∙ rw (← number, eq-eqb m 0 z, q, l, c))
+      is-loaded k l y a = (
+        e ∙ fits-told order fits ∙ ap (λ (i : ℕ). tells i 0) (sym z) ∙ told-is,
+        a ∙ rw (← number-is, eq-eqb m 0 z, r, l, q),
+      )

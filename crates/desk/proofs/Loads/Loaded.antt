@@ -4,16 +4,16 @@ use mathlib.Core.Path.{_≡_, sym, _∙_, ap}
 use mathlib.Core.Bool.{true, false, not}
 use mathlib.Core.List.{List}
 use mathlib.Core.Logic.{⊎-elim}
-use Prim.Native.Nat.{ℕ, zero, suc, _≤_, _<_}
+use Prim.Native.Nat.{ℕ, zero, suc, _*_, _≤_, _<_}
 use native.Mathlib.Nat.{not-suc-le-zero, le-of-suc-le-suc, eq-or-lt-of-le}
 use native.Mathlib.Omega.{arith}
 use lib.Dec.{eqb, ltb}
 use lib.ListN.{length}
-use borrow.Author.Tests.{ne-eqb, ltb-true, ltb-false}
+use borrow.Author.Tests.{ne-eqb, eqb-true, eqb-false, ltb-true, ltb-false}
 use Rattle.card.specs.Row.{regsOf}
 use Rattle.registers.specs.Registers.{hardwareReset}
-use Rattle.told.specs.Numbers.{DONE, ROOM, ORDER, told}
-use Rattle.told.proofs.Told.Smallest.{refuse-held, refuse-passed, refuse-stays}
+use Rattle.told.specs.Numbers.{DONE, ROOM, told}
+use Rattle.told.proofs.Told.Smallest.{refuse-stays}
 use Rattle.card.specs.Access.{freshRow}
 use Rattle.bits.proofs.Words.Bools.{cases}
 use Rattle.card.proofs.Rows.WellFormed.{fresh-off}
@@ -25,10 +25,16 @@ use Rattle.table.proofs.Folds.{clash}
 use Rattle.table.proofs.Online.Nodes.{online-is, node-online, node-id, online-same}
 use Rattle.table.proofs.Access.Fresh.{fresh-room, fresh-net, header-fresh, rowAt-fresh}
 use Rattle.table.proofs.Access.ShapeCalls.{shape-fresh}
-use Rattle.desk.specs.Order.{records, recordAt, idAt, flagsOf, orderFits}
-use Rattle.desk.specs.Load.{loadedRow, loadedRows, roomRefusals, loadRefusals, loadNumber, netAfterLoad}
-use Rattle.desk.proofs.Forms.OrderLaws.{order-records, order-id, order-differ}
+use Rattle.orders.specs.declared.check.Checked.{Checked}
+use Rattle.orders.specs.Form.{recordBytes, records, recordAt, idAt, flagsOf, orderFits}
+use Rattle.orders.specs.Check.{tells, checked}
+use Rattle.orders.proofs.Forms.Records.{records-within}
+use Rattle.orders.proofs.Checks.Fit.{fits-told, told-fits, order-records, order-id, order-differ, bad-within}
+use Rattle.desk.specs.Load.{loadedRow, loadedRows, roomRefusals, loading, loadNumber, netAfterLoad}
 use Rattle.desk.proofs.Loads.LoadRow.{Unrefused, row-unrefused, row-loaded, row-on}
+
+abbrev pub number : Checked → ℕ
+number c = c .number
 
 abbrev OnLine : List ℕ → ℕ → ℕ → Type 0
 OnLine net k i = (onLineAt net k ≡ true) × (regsAt net k .id ≡ i)
@@ -105,16 +111,23 @@ module _ (order : List ℕ) (o : orderFits order ≡ true) where
   loaded-first zero l = loaded-none
   loaded-first (suc k) l = loaded-more (loadedRows order (freshNet (records order)) k) k (loaded-first k (omega arith)) l
 
--- ---- the number: ORDER, and then ROOM, as the fresh call tells it
+-- ---- what is told: of the order, and then ROOM, as the fresh call tells it
 module _ (order net : List ℕ) where
-  pub load-order : orderFits order ≡ false → loadNumber order net ≡ ORDER
-  unfolding loadNumber loadRefusals
-  load-order o =
-      rw (refuse-held ORDER (not (orderFits order)) (ap not o), refuse-stays ORDER ROOM (not (eqb (length net) (exactLength (records order)))) (λ z. omega arith))
+  pub load-order : (checked order .number ≡ DONE → ⊥) → loading order net ≡ checked order
+  unfolding loading
+  load-order u = rw (refuse-stays (checked order .number) ROOM (not (eqb (length net) (exactLength (records order)))) u)
 
-  pub load-room : orderFits order ≡ true → loadNumber order net ≡ told (roomRefusals order net)
-  unfolding loadNumber loadRefusals
-  load-room o = rw (refuse-passed DONE ORDER (not (orderFits order)) (ap not o))
+  pub order-first : orderFits order ≡ false → loading order net ≡ checked order
+  order-first o = load-order (λ z. clash (told-fits order z) o)
+
+  pub load-room : orderFits order ≡ true → loading order net ≡ tells (told (roomRefusals order net)) 0
+  unfolding loading
+  load-room o = rw (fits-told order o)
+
+  -- the record that is named is one of the order's
+  pub load-within : (c : Checked) → c ≡ loading order net → recordBytes * c .bad ≤ length order
+  unfolding loading
+  load-within c e = rw e (omega (arith, bad-within order, records-within order))
 
   pub load-refused : (loadNumber order net ≡ 0 → ⊥) → netAfterLoad order net ≡ net
   unfolding netAfterLoad
@@ -123,12 +136,15 @@ module _ (order net : List ℕ) where
 -- ---- an order that is loaded
 module _ (order net : List ℕ) (z : loadNumber order net ≡ 0) where
   pub loaded-fits : orderFits order ≡ true
-  loaded-fits = ⊎-elim (λ t. t) (λ t. absurd (let e = load-order order net t in omega arith)) (cases (orderFits order))
+  loaded-fits =
+      ⊎-elim (λ t. told-fits order (eqb-true _ _ t))
+      (λ t. let u = eqb-false (checked order .number) DONE t in absurd (u (sym (ap number (load-order order net u)) ∙ z)))
+      (cases (eqb (checked order .number) DONE))
 
   made : netAfterFresh net (records order) ≡ freshNet (records order)
   made =
       let r = order-records order loaded-fits in
-      fresh-net net (records order) (fresh-room net (records order) (r .0) (r .1) ∙ sym (load-room order net loaded-fits) ∙ z)
+      fresh-net net (records order) (fresh-room net (records order) (r .0) (r .1) ∙ sym (ap number (load-room order net loaded-fits)) ∙ z)
 
   pub never-refused : (k : ℕ) → k < records order
       → Unrefused (loadedRows order (netAfterFresh net (records order)) k) k (idAt order k) (flagsOf (recordAt order k))

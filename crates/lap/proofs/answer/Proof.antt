@@ -6,7 +6,8 @@ use lib.ListN.{length}
 use borrow.Author.Needs.{needs}
 use Rattle.table.specs.Network.{rowLimit}
 use Rattle.table.proofs.Access.Fresh.{exact-mono}
-use Rattle.desk.proofs.Forms.Records.{records-within}
+use Rattle.orders.proofs.Forms.Records.{records-within}
+use Rattle.desk.proofs.Loads.Loaded.{load-within}
 use Rattle.lap.proofs.answer.Statement.{statement}
 use Rattle.lap.proofs.answer.Tie as tie
 
@@ -22,10 +23,14 @@ room c =
 exact-length-requires : tie.Need-exact-length-requires
 exact-length-requires c κs = omega (arith, few c)
 
+-- the record that a refusal names is one of the order's
+unfit-requires : tie.Need-unfit-requires
+unfit-requires c κs = load-within _ _ _ (c .before .before .before .before .before .load .ensures .0)
+
 pub answer-spec : {M : Type 1} → statement M
 answer-spec =
     tie.close
     (tie.spec (λ c κs. search needs) exact-length-requires (λ c. search needs) (λ c. search needs) room
-    (λ c κs. search needs) (λ c κs. search needs) (λ c. search needs) (λ c. search needs) (λ c. search needs) (λ c. search needs)
-    (λ c. omega (arith, room (c .before .before .before .before .before)))
-    (λ c κs. search needs) (λ c κs. search needs) (λ c. search needs) (λ c. search needs) (λ c κs. few (c .before .before .before .before .before .before .before .before .before .before .before .before)) (λ c. search needs) (λ c. search needs))
+    (λ c κs. search needs) (λ c κs. search needs) unfit-requires (λ c. search needs) (λ c. search needs) (λ c. search needs) (λ c. search needs)
+    (λ c. omega (arith, room (c .before .before .before .before .before .before)))
+    (λ c κs. search needs) (λ c κs. search needs) (λ c κs. search needs) (λ c. search needs) (λ c. search needs) (λ c κs. few (c .before .before .before .before .before .before .before .before .before .before .before .before .before)) (λ c. search needs) (λ c. search needs))

@@ -1,16 +1,13 @@
 -- No second outcome fits a contract of `desk`.
 -- Assumes nothing.
 use mathlib.Core.Path.{refl, sym, _∙_}
-use Rattle.desk.proofs.Forms.Names.{name-there}
 use Rattle.desk.proofs.Lapping.LapLeaves.{only-walk}
 use Rattle.promises.specs.OfDesk.{OfDesk}
-use Rattle.promises.proofs.Once.Same.{told, both-right, part}
+use Rattle.promises.proofs.Once.Same.{told, both-right}
 use Rattle.promises.proofs.Once.Sized.{sized}
 
 pub desk-once : OfDesk
 desk-once = record {
-  records = (λ _ _. tt, λ _ _ _ _ _ _. told refl);
-  name-at = (λ _ _. tt, λ _ _ x x′ _ _. part x x′ refl (name-there _ _));
   load = (λ _ _. tt, λ _ _ _ _ _ _. both-right refl);
   nobody = (λ _ _. tt, λ _ _ _ _ _ _. told refl);
   walk = (

@@ -109,6 +109,12 @@ smallest-from (k when false ∷ l) n r =
 pub smallest : (l : List Refusal) → rises (numbersOf l) ≡ true → Smallest l (told l)
 smallest l r = smallest-from l DONE r
 
+-- a refusal that holds has a number of the list
+pub refuses-among : (l : List Refusal) (n : ℕ) → refuses l n ≡ true → among (numbersOf l) n ≡ true
+refuses-among [] n h = h
+refuses-among (k when t ∷ l) n h =
+    ⊎-elim (λ (e : eqb n k ≡ true). rw e) (λ (e : eqb n k ≡ false). rw e (refuses-among l n (rw e at h))) (cases (eqb n k))
+
 -- where DONE is told no refusal holds
 pub none-refuses : (l : List Refusal) → rises (numbersOf l) ≡ true → told l ≡ DONE → (n : ℕ) → refuses l n ≡ false
 none-refuses l r z n = ⊎-elim (λ t. absurd (smallest l r .least n t .0 z)) (λ t. t) (cases (refuses l n))

@@ -6,7 +6,7 @@ use Prim.Native.Nat.{ℕ}
 use lib.ListN.{length}
 use borrow.Author.Needs.{needs}
 use Rattle.table.proofs.calls.write_on.Reads as write-on
-use Rattle.desk.specs.Order.{RECEIVE, LONG}
+use Rattle.orders.specs.Form.{RECEIVE, LONG}
 use Rattle.desk.specs.Load.{set19, setId, setLong, setReceive, set38, loadedRow}
 use Rattle.desk.proofs.Loads.LoadSteps.{at-place, is-made, is-skipped, writable-19, writable-id, writable-long, writable-receive, writable-row}
 use Rattle.desk.proofs.loading.load_row.Statement.{statement}

@@ -1,4 +1,0 @@
--- The order form: its records, IDs and names.
-pub mod Records
-pub mod Names
-pub mod OrderLaws

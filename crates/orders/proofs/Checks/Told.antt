@@ -1,0 +1,69 @@
+-- What is told of an order: as the code goes through its records, and what it says of the record that is named.
+-- Assumes nothing.
+use mathlib.Core.Path.{_≡_, sym, _∙_, ap}
+use mathlib.Core.Bool.{Bool, true, false, not}
+use mathlib.Core.List.{List}
+use Prim.Native.Nat.{ℕ, _+_, _<_}
+use native.Mathlib.Omega.{arith}
+use lib.Dec.{eqb, ltb}
+use borrow.Author.Tests.{ne-eqb, eq-eqb, eqb-true, eqb-false, ltb-true, ltb-false, lt-ltb, le-ltb, not-true, not-false}
+use Rattle.told.specs.Numbers.{DONE, LENGTH}
+use Rattle.bits.proofs.Words.Bools.{pick-of}
+use Rattle.table.specs.Folds.{seek}
+use Rattle.table.proofs.Folds.{seek-here, seek-more, seek-found, seek-least}
+use Rattle.orders.specs.declared.check.Checked.{Checked}
+use Rattle.orders.specs.Form.{records, lengthFits}
+use Rattle.orders.specs.Check.{recordNumber, refused, firstBad, tells, checked}
+
+module _ (order : List ℕ) where
+  -- ---- as the code goes: the search finds none of the first k records
+  pub tells-length : lengthFits order ≡ false → tells LENGTH 0 ≡ checked order
+  unfolding checked
+  tells-length l = rw l
+
+  module _ (l : lengthFits order ≡ true) (k : ℕ) (s : seek (refused order) k ≡ k) where
+    pub tells-bad : k < records order → (m : ℕ) → m ≡ recordNumber order k → (m ≡ DONE → ⊥) → tells m (k + 1) ≡ checked order
+    unfolding checked firstBad
+    tells-bad b m p u =
+        let f : refused order k ≡ true = ap not (ne-eqb _ _ (λ z. u (p ∙ z))) in
+        rw (l, seek-here (refused order) (records order) k s f b, lt-ltb k (records order) b, p)
+
+    pub tells-good : k ≡ records order → tells DONE 0 ≡ checked order
+    unfolding checked firstBad
+    tells-good c = rw (l, rw c at s, le-ltb (records order) (records order) (omega arith))
+
+  pub goes-on : (k : ℕ) → seek (refused order) k ≡ k → (m : ℕ) → m ≡ recordNumber order k → m ≡ DONE → seek (refused order) (k + 1) ≡ k + 1
+  goes-on k s m p z = seek-more (refused order) k s (ap not (eq-eqb _ _ (sym p ∙ z)))
+
+  -- ---- what is told is one of three: LENGTH; the refusal of a record, none before it being refused; DONE, where none is
+  is-good : (j : ℕ) → refused order j ≡ false → recordNumber order j ≡ DONE
+  is-good j t = eqb-true _ _ (not-false (eqb (recordNumber order j) DONE) t)
+
+  abbrev pub Good : ℕ → Type 0
+  Good n = (j : ℕ) → j < n → recordNumber order j ≡ DONE
+
+  good-below : (n j : ℕ) → j < seek (refused order) n → recordNumber order j ≡ DONE
+  good-below n j b = is-good j (seek-least (refused order) n j b)
+
+  pub record First (k : ℕ) : Type 0 where
+    pub sized : lengthFits order ≡ true
+    pub there : k < records order
+    pub before : Good k
+    pub fault : recordNumber order k ≡ DONE → ⊥
+
+  module _ (P : Checked → Type 0) (short : lengthFits order ≡ false → P (tells LENGTH 0)) (bad : (k : ℕ) → First k → P (tells (recordNumber order k) (k + 1)))
+      (good : lengthFits order ≡ true → Good (records order) → P (tells DONE 0)) where
+    pub checked-of : P (checked order)
+    unfolding checked firstBad
+    checked-of =
+        let n = records order in
+        let k = seek (refused order) n in
+        pick-of P (not (lengthFits order)) (λ t. short (not-true _ t))
+        (λ t. pick-of P (ltb k n)
+        (λ b. bad k (record {
+          sized = not-false (lengthFits order) t;
+          there = ltb-true k n b;
+          before = good-below n;
+          fault = eqb-false _ _ (not-true (eqb (recordNumber order k) DONE) (seek-found (refused order) n (ltb-true k n b)));
+        }))
+        (λ b. good (not-false (lengthFits order) t) (λ j l. good-below n j (omega (arith, ltb-false k n b)))))
