@@ -115,7 +115,8 @@ module _ (order : List ℕ) (o : orderFits order ≡ true) where
 module _ (order net : List ℕ) where
   pub load-order : (checked order .number ≡ DONE → ⊥) → loading order net ≡ checked order
   unfolding loading
-  load-order u = rw (refuse-stays (checked order .number) ROOM (not (eqb (length net) (exactLength (records order)))) u)
+  load-order u =
+      ap (λ (n : ℕ). tells n (checked order .bad)) (refuse-stays (checked order .number) ROOM (not (eqb (length net) (exactLength (records order)))) u)
 
   pub order-first : orderFits order ≡ false → loading order net ≡ checked order
   order-first o = load-order (λ z. clash (told-fits order z) o)

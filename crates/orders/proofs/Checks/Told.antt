@@ -21,16 +21,22 @@ module _ (order : List ℕ) where
   unfolding checked
   tells-length l = rw l
 
+  first-here : (k : ℕ) → seek (refused order) k ≡ k → k < records order → refused order k ≡ true → firstBad order ≡ k
+  unfolding firstBad
+  first-here k s b f = seek-here (refused order) (records order) k s f b
+
+  first-none : seek (refused order) (records order) ≡ records order → firstBad order ≡ records order
+  unfolding firstBad
+  first-none s = s
+
   module _ (l : lengthFits order ≡ true) (k : ℕ) (s : seek (refused order) k ≡ k) where
     pub tells-bad : k < records order → (m : ℕ) → m ≡ recordNumber order k → (m ≡ DONE → ⊥) → tells m (k + 1) ≡ checked order
-    unfolding checked firstBad
-    tells-bad b m p u =
-        let f : refused order k ≡ true = ap not (ne-eqb _ _ (λ z. u (p ∙ z))) in
-        rw (l, seek-here (refused order) (records order) k s f b, lt-ltb k (records order) b, p)
+    unfolding checked
+    tells-bad b m p u = rw (l, first-here k s b (ap not (ne-eqb _ _ (λ z. u (p ∙ z)))), lt-ltb k (records order) b, p)
 
     pub tells-good : k ≡ records order → tells DONE 0 ≡ checked order
-    unfolding checked firstBad
-    tells-good c = rw (l, rw c at s, le-ltb (records order) (records order) (omega arith))
+    unfolding checked
+    tells-good c = rw (l, first-none (rw c at s), le-ltb (records order) (records order) (omega arith))
 
   pub goes-on : (k : ℕ) → seek (refused order) k ≡ k → (m : ℕ) → m ≡ recordNumber order k → m ≡ DONE → seek (refused order) (k + 1) ≡ k + 1
   goes-on k s m p z = seek-more (refused order) k s (ap not (eq-eqb _ _ (sym p ∙ z)))
