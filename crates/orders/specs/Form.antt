@@ -67,13 +67,14 @@ nameFits r = not (eqb (getD r 4 0) 0x20) && printables (nameOf r)
 unfoldable pub recordFits : List ℕ → Bool
 recordFits r = all (marked r ∷ idFits r ∷ flagsFit r ∷ nameFits r ∷ [])
 
--- "IDs differ": a record before record k has its ID
+-- "IDs differ": a record whose ID a record before it has repeats it
 abbrev pub idAt : List ℕ → ℕ → ℕ
 idAt order k = idOf (recordAt order k)
 
 unfoldable pub repeats : List ℕ → ℕ → Bool
 repeats order k = some (λ j. eqb (idAt order j) (idAt order k)) k
 
+-- each record fits, and none repeats an ID
 unfoldable pub orderFits : List ℕ → Bool
 orderFits order =
     lengthFits order && every (λ k. recordFits (recordAt order k)) (records order) && every (λ k. not (repeats order k)) (records order)

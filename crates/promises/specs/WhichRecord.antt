@@ -2,7 +2,7 @@
 -- Assumes nothing.
 use mathlib.Core.Path.{_≡_}
 use mathlib.Core.Bool.{true, false, not}
-use mathlib.Core.List.{List, [], _∷_}
+use mathlib.Core.List.{List, _∷_}
 use Prim.Native.Nat.{ℕ, _+_, _<_}
 use lib.Dec.{eqb}
 use Rattle.bits.specs.Words.{pick, among}
@@ -30,9 +30,9 @@ pub record WhichRecord : Type 0 where
   pub done : (order : List ℕ) → orderFits order ≡ true → checked order ≡ tells DONE 0
   -- "LENGTH before all", and it names none
   pub length : (order : List ℕ) → lengthFits order ≡ false → checked order ≡ tells LENGTH 0
-  -- "the first bad record is named": by the numbers of a record alone, from 1
+  -- a record is named where the number is one of a record's, and nowhere else; it is the first bad one, counted from 1
   pub names : (order : List ℕ) → among recordNumbers (checked order .number) ≡ not (eqb (checked order .bad) 0)
   pub first : (order : List ℕ) (k : ℕ) → checked order .bad ≡ k + 1 → FirstBad order k (checked order .number)
-  -- what loading told before it tells still, with the six numbers of an order read as the one that they became of, 14
+  -- what loading told before C-12 it tells still, with the six numbers of an order read as 14, which they were
   pub before : (order net : List ℕ) → pick (among (LENGTH ∷ recordNumbers) (loadNumber order net)) 14 (loadNumber order net)
       ≡ told (14 when not (orderFits order) ∷ roomRefusals order net)

@@ -17,7 +17,7 @@ use Rattle.table.specs.Folds.{every}
 use Rattle.table.specs.Network.{rowLimit}
 use Rattle.table.proofs.Folds.{clash, every-at, every-of, some-fails, seek-not}
 use Rattle.orders.specs.declared.check.Checked.{Checked}
-use Rattle.orders.specs.Form.{recordBytes, records, recordAt, lengthFits, idOf, marked, idFits, flagsFit, nameFits, recordFits, idAt, repeats, orderFits}
+use Rattle.orders.specs.Form.{recordBytes, records, recordAt, lengthFits, marked, idFits, flagsFit, nameFits, recordFits, idAt, repeats, orderFits}
 use Rattle.orders.specs.Check.{recordRefusals, recordNumbers, recordNumber, refused, tells, checked}
 use Rattle.orders.proofs.Checks.Told.{Good, First, tells-good, checked-of}
 

@@ -24,7 +24,7 @@ pub above : (a b : ℕ) → ltb a b ≡ not (leb b a)
 above a b = sym (ap not (leb-not a b) ∙ not-not (ltb a b))
 
 -- the search for the ID of record k among the records before it tells whether one has it
-pub repeats-is : (order : List ℕ) (k i : ℕ) → i ≡ idAt order k → (j : ℕ) → j ≡ seek (λ m. eqb (idAt order m) i) k → ltb j k ≡ repeats order k
+repeats-is : (order : List ℕ) (k i : ℕ) → i ≡ idAt order k → (j : ℕ) → j ≡ seek (λ m. eqb (idAt order m) i) k → ltb j k ≡ repeats order k
 unfolding repeats
 repeats-is order k i a j e =
     ⊎-elim (λ t. t ∙ sym (some-found _ k j (rw a at e) (ltb-true j k t))) (λ t. t ∙ sym (some-missed _ k j (rw a at e) (ltb-false j k t))) (cases (ltb j k))
