@@ -1,8 +1,8 @@
 //! The fixed cases of document 01, "Sums to prove and sums to run", two of its "differ" for every pair
-//! of rows and of records (C-14), one of request C-11, and the sweeps.
+//! of rows and of records (C-14), two of request C-12, one of C-11, and the sweeps.
 
 use crate::model::{Network, MOST_ROWS};
-use crate::order::ORDER_MARK;
+use crate::order::{ORDER_MARK, RECORD};
 use crate::peer::{InProcess, Peer};
 use crate::prompt::hex_text;
 use crate::sweeps;
@@ -10,49 +10,69 @@ use crate::sweeps;
 /// Lines with the answers that the documents give them.
 type Script = Vec<(String, String)>;
 
+enum Case {
+    Lines(fn() -> Script),
+    FaultOnBroadcast,
+    Sweep(fn(&mut dyn Peer) -> Result<(), String>),
+}
+
+const CASES: [(&str, Case); 12] = [
+    ("one row refuses ALONE", Case::Lines(one_row)),
+    ("60 rows load, 61 refuse", Case::Lines(sixty_and_one)),
+    (
+        "no two of 60 rows on line have one ID",
+        Case::Lines(two_rows_alike),
+    ),
+    (
+        "no two of 60 records have one ID",
+        Case::Lines(two_records_alike),
+    ),
+    (
+        "a bad record of 60 is named, whichever it is",
+        Case::Lines(each_record_bad),
+    ),
+    (
+        "the first bad record is named, for the first reason",
+        Case::Lines(several_reasons),
+    ),
+    (
+        "a packet to one's own ID gets NOANSWER",
+        Case::Lines(to_own_id),
+    ),
+    (
+        "fault 2 on a broadcast changes nothing",
+        Case::FaultOnBroadcast,
+    ),
+    (
+        "two packets queued go one a token",
+        Case::Lines(two_packets_queued),
+    ),
+    (
+        "the values that each register takes",
+        Case::Sweep(sweeps::registers),
+    ),
+    (
+        "the values with which a row is well formed",
+        Case::Sweep(sweeps::forms),
+    ),
+    (
+        "N is 1-253 or 257-508, whatever the count bytes",
+        Case::Sweep(sweeps::lengths),
+    ),
+];
+
 pub fn run(peer: &mut dyn Peer) -> Result<(), String> {
     let mut both = Both {
         there: peer,
         here: InProcess::new(),
     };
-    let results = [
-        ("one row refuses ALONE", both.follow(&one_row())),
-        ("60 rows load, 61 refuse", both.follow(&sixty_and_one())),
-        (
-            "no two of 60 rows on line have one ID",
-            both.follow(&two_rows_alike()),
-        ),
-        (
-            "no two of 60 records have one ID",
-            both.follow(&two_records_alike()),
-        ),
-        (
-            "a packet to one's own ID gets NOANSWER",
-            both.follow(&to_own_id()),
-        ),
-        (
-            "fault 2 on a broadcast changes nothing",
-            both.fault_on_broadcast(),
-        ),
-        (
-            "two packets queued go one a token",
-            both.follow(&two_packets_queued()),
-        ),
-        (
-            "the values that each register takes",
-            both.each(sweeps::registers),
-        ),
-        (
-            "the values with which a row is well formed",
-            both.each(sweeps::forms),
-        ),
-        (
-            "N is 1-253 or 257-508, whatever the count bytes",
-            both.each(sweeps::lengths),
-        ),
-    ];
     let mut failed = false;
-    for (name, result) in results {
+    for (name, case) in CASES {
+        let result = match case {
+            Case::Lines(script) => both.follow(&script()),
+            Case::FaultOnBroadcast => both.fault_on_broadcast(),
+            Case::Sweep(sweep) => both.each(sweep),
+        };
         println!(
             "{name}: {}",
             result
@@ -70,14 +90,22 @@ pub fn run(peer: &mut dyn Peer) -> Result<(), String> {
 }
 
 /// An order for these IDs, all with the receiver on.
-pub fn order_line(ids: &[u8]) -> String {
+fn order(ids: &[u8]) -> Vec<u8> {
     let mut order = Vec::new();
     for id in ids {
         order.extend(ORDER_MARK);
         order.extend([*id, 1]);
         order.extend(b"NODE        ");
     }
-    format!("load {}", hex_text(&order))
+    order
+}
+
+pub fn order_line(ids: &[u8]) -> String {
+    load_line(&order(ids))
+}
+
+fn load_line(order: &[u8]) -> String {
+    format!("load {}", hex_text(order))
 }
 
 fn script(lines: &[(&str, &str)]) -> Script {
@@ -105,7 +133,7 @@ fn sixty_and_one() -> Script {
     let ids: Vec<u8> = (1..=MOST_ROWS as u8 + 1).collect();
     let mut lines = loaded(&ids[..MOST_ROWS], "DONE");
     lines.extend(script(&[("check", "DONE")]));
-    lines.extend(loaded(&ids, "REFUSED 14 ORDER"));
+    lines.extend(loaded(&ids, "REFUSED 14 LENGTH"));
     lines.extend(script(&[
         ("fresh 61", "REFUSED 4 VALUE"),
         ("check", "REFUSED 1 SHAPE"),
@@ -137,7 +165,7 @@ fn two_rows_alike() -> Script {
     lines
 }
 
-/// Every pair of sixty records: with one ID they are ORDER.
+/// Every pair of sixty records: with one ID they are TWICE, and the later is named.
 fn two_records_alike() -> Script {
     let ids: Vec<u8> = (1..=MOST_ROWS as u8).collect();
     let mut lines = loaded(&ids, "DONE");
@@ -145,9 +173,74 @@ fn two_records_alike() -> Script {
         for earlier in &ids[..later] {
             let mut alike = ids.clone();
             alike[later] = *earlier;
-            lines.push((order_line(&alike), "REFUSED 14 ORDER".to_string()));
+            let answer = format!("REFUSED 19 TWICE {}", later + 1);
+            lines.push((order_line(&alike), answer));
         }
     }
+    lines
+}
+
+/// A byte of a record, and a value that makes the record bad.
+type Fault = (usize, u8);
+
+const MARK: Fault = (1, 0x53);
+const ORDER_ID: Fault = (2, 0x00);
+const FLAGS: Fault = (3, 0x04);
+const NAME: Fault = (4, 0x20);
+
+/// The line of an order for these IDs, with faults in one record, from 1.
+fn bad_line(ids: &[u8], record: usize, faults: &[Fault]) -> String {
+    let mut order = order(ids);
+    for (byte, value) in faults {
+        order[RECORD * (record - 1) + byte] = *value;
+    }
+    load_line(&order)
+}
+
+/// Every one of sixty records with each thing that can be wrong with it alone.
+fn each_record_bad() -> Script {
+    const REASONS: [(Fault, &str); 7] = [
+        ((0, 0x4E), "15 MARK"),
+        (MARK, "15 MARK"),
+        (ORDER_ID, "16 ORDER-ID"),
+        (FLAGS, "17 FLAGS"),
+        (NAME, "18 NAME"),
+        ((5, 0x1F), "18 NAME"),
+        ((15, 0x7F), "18 NAME"),
+    ];
+    let ids: Vec<u8> = (1..=MOST_ROWS as u8).collect();
+    let mut lines = loaded(&ids, "DONE");
+    for record in 1..=ids.len() {
+        for (fault, reason) in REASONS {
+            let line = bad_line(&ids, record, &[fault]);
+            lines.push((line, format!("REFUSED {reason} {record}")));
+        }
+    }
+    lines
+}
+
+/// The readings C12-01, 02, 05 and 04: the first bad record, whatever the others are; of its reasons
+/// the first; and all before ROOM.
+fn several_reasons() -> Script {
+    let bad_mark = bad_line(&[7], 1, &[MARK]);
+    let mut lines = loaded(&[7, 8, 9], "DONE");
+    lines.extend(script(&[
+        (&bad_line(&[7, 7, 9], 3, &[MARK]), "REFUSED 19 TWICE 2"),
+        (&order_line(&[0, 0]), "REFUSED 16 ORDER-ID 1"),
+        (&order_line(&[7, 7, 7]), "REFUSED 19 TWICE 2"),
+        (&order_line(&[7, 8, 8, 7]), "REFUSED 19 TWICE 3"),
+        (&bad_line(&[0], 1, &[FLAGS]), "REFUSED 16 ORDER-ID 1"),
+        (&bad_line(&[7, 0], 2, &[MARK]), "REFUSED 15 MARK 2"),
+        (&bad_line(&[7, 7], 2, &[FLAGS, NAME]), "REFUSED 17 FLAGS 2"),
+        (&bad_line(&[7, 7], 2, &[NAME]), "REFUSED 18 NAME 2"),
+        ("size 5", "DONE"),
+        (&bad_mark, "REFUSED 15 MARK 1"),
+        (&format!("{bad_mark}00"), "REFUSED 14 LENGTH"),
+        ("load", "REFUSED 14 LENGTH"),
+        (&order_line(&[7]), "REFUSED 13 ROOM"),
+        (&format!("size {}", Network::length_for(3)), "DONE"),
+        ("check", "DONE"),
+    ]));
     lines
 }
 

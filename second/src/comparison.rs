@@ -6,7 +6,7 @@ use std::collections::VecDeque;
 use crate::model::Network;
 use crate::peer::Peer;
 use crate::prompt::{Lent, Prompt};
-use crate::sights::{View, Watch};
+use crate::sights::{orders, View, Watch};
 use crate::tally::Tally;
 
 /// Calls sent at a time. While the peer works on them the next ones are made.
@@ -97,7 +97,8 @@ impl<'a> Comparison<'a> {
         let sum = self.own.answer(b"sum");
         let text = String::from_utf8_lossy(line);
         let words: Vec<&str> = text.split(' ').collect();
-        let sights = self.watch.sights(&words, before.as_ref(), after.as_ref());
+        let mut sights = self.watch.sights(&words, before.as_ref(), after.as_ref());
+        sights.extend(orders::sights(&words, self.own.lent().length()));
         self.tally.record(&words, &answer, sights);
         self.unsent.extend_from_slice(line);
         self.unsent.extend_from_slice(b"\nsum\n");

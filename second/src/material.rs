@@ -54,30 +54,67 @@ pub fn order(rng: &mut Rng, records: usize) -> Vec<u8> {
     order
 }
 
-/// An order with one thing wrong with it.
-pub fn damaged_order(rng: &mut Rng, records: usize) -> Vec<u8> {
+/// An order in which most often a record is bad, or several are, each for one reason or for more.
+pub fn order_with_bad_records(rng: &mut Rng, records: usize) -> Vec<u8> {
     let mut bytes = order(rng, records);
-    let at = RECORD * rng.below(records);
-    match rng.below(10) {
-        0 => bytes[at + rng.below(2)] ^= 1 << rng.below(8),
-        1 => bytes[at + 2] = 0,
-        2 => bytes[at + 3] = rng.pick(&[4, 5, 7, 8, 0x10, 0x20, 0x40, 0x80, 0xFF]),
-        3 => bytes[at + rng.between(4, 15)] = rng.pick(&[0x00, 0x1F, 0x7F, 0x80, 0xFF]),
-        4 => bytes[at + 4] = 0x20,
-        5 => {
-            let twin = bytes[2];
-            bytes[at + 2] = twin;
-            if at == 0 {
-                let first = bytes[..RECORD].to_vec();
-                bytes.extend(first);
-            }
+    if rng.one_in(3) {
+        few_ids(rng, &mut bytes);
+    }
+    let mut record = rng.below(records);
+    for _ in 0..rng.pick(&[0, 1, 1, 2, 3, 4, 5]) {
+        spoil(rng, &mut bytes, record);
+        if !rng.one_in(3) {
+            record = rng.below(records);
         }
-        6 => bytes.truncate(at + rng.between(1, 15)),
-        7 => bytes.extend(vec![0x20; rng.between(1, 15)]),
-        8 => {
-            let too_many = rng.pick(&[MOST_ROWS + 1, MOST_ROWS + 2]);
-            bytes = order(rng, too_many);
+    }
+    bytes
+}
+
+/// Gives some records the IDs of others, so that pairs cross and more than two are alike.
+fn few_ids(rng: &mut Rng, order: &mut [u8]) {
+    for record in 0..order.len() / RECORD {
+        if rng.flag() {
+            take_an_id(rng, order, record);
         }
+    }
+}
+
+/// Gives a record the ID of any, which may be its own.
+fn take_an_id(rng: &mut Rng, order: &mut [u8], record: usize) {
+    let from = rng.below(order.len() / RECORD);
+    order[RECORD * record + 2] = order[RECORD * from + 2];
+}
+
+/// Makes a record bad, or another that it is now alike to; one that is alone stays good at times.
+fn spoil(rng: &mut Rng, order: &mut [u8], record: usize) {
+    let bytes = &mut order[RECORD * record..][..RECORD];
+    match rng.weighted(&[4, 4, 4, 3, 3, 8]) {
+        0 => bytes[rng.below(2)] ^= 1 << rng.below(8),
+        1 => bytes[2] = 0,
+        2 => bytes[3] = rng.pick(&[4, 5, 7, 8, 0x10, 0x20, 0x40, 0x80, 0xFF]),
+        3 => bytes[rng.between(4, 15)] = rng.pick(&[0x00, 0x1F, 0x7F, 0x80, 0xFF]),
+        4 => bytes[4] = 0x20,
+        _ => take_an_id(rng, order, record),
+    }
+}
+
+/// An order that is not 1 to 60 whole records; those it has may be bad.
+pub fn order_of_wrong_length(rng: &mut Rng, records: usize) -> Vec<u8> {
+    let too_many = rng.one_in(3);
+    let records = if too_many {
+        rng.pick(&[MOST_ROWS + 1, MOST_ROWS + 2])
+    } else {
+        records
+    };
+    let mut bytes = if rng.flag() {
+        order(rng, records)
+    } else {
+        order_with_bad_records(rng, records)
+    };
+    match rng.below(3) {
+        _ if too_many => {}
+        0 => bytes.truncate(bytes.len() - rng.between(1, 15)),
+        1 => bytes.extend(vec![0x20; rng.between(1, 15)]),
         _ => bytes.clear(),
     }
     bytes

@@ -4,6 +4,7 @@
 
 use crate::line::{Outcome, Step, Taker};
 use crate::model::Network;
+use crate::order::{BadRecord, NotLoaded};
 use crate::refusal::Refusal;
 
 /// Bytes in the buffer that the lent network is the beginning of.
@@ -124,12 +125,22 @@ pub fn fnv(bytes: &[u8]) -> u64 {
 /// Why a line is not done.
 enum Complaint {
     Refused(Refusal),
+    BadRecord(BadRecord),
     NotUnderstood(&'static str),
 }
 
 impl From<Refusal> for Complaint {
     fn from(refusal: Refusal) -> Complaint {
         Complaint::Refused(refusal)
+    }
+}
+
+impl From<NotLoaded> for Complaint {
+    fn from(not_loaded: NotLoaded) -> Complaint {
+        match not_loaded {
+            NotLoaded::Refused(refusal) => Complaint::Refused(refusal),
+            NotLoaded::BadRecord(bad) => Complaint::BadRecord(bad),
+        }
     }
 }
 
@@ -152,8 +163,9 @@ impl Prompt {
     pub fn answer(&mut self, line: &[u8]) -> String {
         match self.obey(line) {
             Ok(answer) => answer,
-            Err(Complaint::Refused(refusal)) => {
-                format!("REFUSED {} {}", refusal.number(), refusal.name())
+            Err(Complaint::Refused(refusal)) => refused(refusal),
+            Err(Complaint::BadRecord(BadRecord { record, reason })) => {
+                format!("{} {record}", refused(reason))
             }
             Err(Complaint::NotUnderstood(what)) => format!("ERROR {what}"),
         }
@@ -259,6 +271,10 @@ fn done() -> String {
     "DONE".to_string()
 }
 
+fn refused(refusal: Refusal) -> String {
+    format!("REFUSED {} {}", refusal.number(), refusal.name())
+}
+
 fn done_hex(bytes: &[u8]) -> String {
     if bytes.is_empty() {
         done()
@@ -328,20 +344,18 @@ fn number(word: &[u8]) -> Result<u32, Complaint> {
         .ok_or(Complaint::NotUnderstood("not a number"))
 }
 
-/// At least one pair of hex digits.
 fn hex(word: &[u8]) -> Result<Vec<u8>, Complaint> {
-    let not_hex = Complaint::NotUnderstood("not pairs of hex digits");
-    if word.is_empty() || !word.len().is_multiple_of(2) {
-        return Err(not_hex);
+    from_hex(word).ok_or(Complaint::NotUnderstood("not pairs of hex digits"))
+}
+
+/// The bytes of at least one pair of hex digits, and of nothing else.
+pub fn from_hex(word: &[u8]) -> Option<Vec<u8>> {
+    let (pairs, rest) = word.as_chunks();
+    if pairs.is_empty() || !rest.is_empty() {
+        return None;
     }
-    let pair = |pair: &[u8]| match pair {
-        [high, low] => Some(digit(*high)? << 4 | digit(*low)?),
-        _ => None,
-    };
-    word.chunks_exact(2)
-        .map(pair)
-        .collect::<Option<Vec<u8>>>()
-        .ok_or(not_hex)
+    let byte = |[high, low]: &[u8; 2]| Some(digit(*high)? << 4 | digit(*low)?);
+    pairs.iter().map(byte).collect()
 }
 
 fn digit(character: u8) -> Option<u8> {

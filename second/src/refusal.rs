@@ -1,7 +1,8 @@
 //! Document 01, "Numbers a caller may get".
 
 /// A refusal by its number. 11 is not given again (request C-20): SHAPE comes first and already
-/// asks that outside LOST the holder is on line.
+/// asks that outside LOST the holder is on line. 14 to 19 are the reasons to refuse an order
+/// (request C-12).
 #[derive(Clone, Copy, Debug, PartialEq, Eq)]
 pub enum Refusal {
     Shape = 1,
@@ -16,7 +17,12 @@ pub enum Refusal {
     Duplicate = 10,
     Alone = 12,
     Room = 13,
-    Order = 14,
+    Length = 14,
+    Mark = 15,
+    OrderId = 16,
+    Flags = 17,
+    Name = 18,
+    Twice = 19,
 }
 
 impl Refusal {
@@ -38,7 +44,12 @@ impl Refusal {
             Refusal::Duplicate => "DUPLICATE",
             Refusal::Alone => "ALONE",
             Refusal::Room => "ROOM",
-            Refusal::Order => "ORDER",
+            Refusal::Length => "LENGTH",
+            Refusal::Mark => "MARK",
+            Refusal::OrderId => "ORDER-ID",
+            Refusal::Flags => "FLAGS",
+            Refusal::Name => "NAME",
+            Refusal::Twice => "TWICE",
         }
     }
 }

@@ -376,11 +376,12 @@ impl<'a> Player<'a> {
         wrong.min(CAPACITY)
     }
 
+    /// Good orders and bad ones, into lent bytes of one length.
     fn orders(&mut self) -> Played {
-        let records = if self.rng.one_in(20) {
-            MOST_ROWS
-        } else {
-            self.rng.between(1, 5)
+        let records = match self.rng.weighted(&[38, 1, 1]) {
+            0 => self.rng.between(1, 6),
+            1 => MOST_ROWS,
+            _ => self.rng.between(7, MOST_ROWS),
         };
         let exact = Network::length_for(records);
         let length = if self.rng.one_in(3) {
@@ -389,11 +390,11 @@ impl<'a> Player<'a> {
             exact
         };
         self.call(&format!("size {length}"))?;
-        for _ in 0..self.rng.between(2, 8) {
-            let order = if self.rng.one_in(4) {
-                material::order(&mut self.rng, records)
-            } else {
-                material::damaged_order(&mut self.rng, records)
+        for _ in 0..self.rng.between(10, 30) {
+            let order = match self.rng.weighted(&[2, 8, 2]) {
+                0 => material::order(&mut self.rng, records),
+                1 => material::order_with_bad_records(&mut self.rng, records),
+                _ => material::order_of_wrong_length(&mut self.rng, records),
             };
             match order.as_slice() {
                 [] => self.call("load")?,

@@ -1,6 +1,8 @@
 //! What a call meets that its words do not say: what waits in a row, what is not cleared, which
 //! byte was changed before. The tally counts each of these sights with the answer that came.
 
+pub mod orders;
+
 use crate::model::{Configuration, Mask, Network, Phase, Row, CHAINING, HEADER, REGISTERS, ROW};
 use crate::queue::{Enabled, Queue, Side};
 use crate::registers::Command;
@@ -101,6 +103,7 @@ pub fn can_come() -> Vec<(String, &'static [&'static str])> {
     }
     all.push((moves_up(RECEIVE, true), STORED));
     all.push((completion_of_one_asked(), STORED));
+    all.extend(orders::can_come());
     all
 }
 

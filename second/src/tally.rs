@@ -17,7 +17,17 @@ const ANSWERS: [(&str, &[&str]); 15] = [
     ),
     (
         "load",
-        &["DONE", "REFUSED 13 ROOM", "REFUSED 14 ORDER", "ERROR"],
+        &[
+            "DONE",
+            "REFUSED 13 ROOM",
+            "REFUSED 14 LENGTH",
+            "REFUSED 15 MARK",
+            "REFUSED 16 ORDER-ID",
+            "REFUSED 17 FLAGS",
+            "REFUSED 18 NAME",
+            "REFUSED 19 TWICE",
+            "ERROR",
+        ],
     ),
     (
         "read",
@@ -335,11 +345,12 @@ fn count(counts: &mut BTreeMap<(String, String), u64>, asked: String, answer: St
     *counts.entry((asked, answer)).or_default() += 1;
 }
 
-/// The answer without what belongs to the single call.
+/// The answer without what belongs to the single call, as the record that is refused does.
 fn kind(word: &str, answer: &str) -> String {
     let words: Vec<&str> = answer.split(' ').collect();
     match words.as_slice() {
-        ["REFUSED" | "HELD", ..] => answer.to_string(),
+        ["REFUSED", number, name, ..] => format!("REFUSED {number} {name}"),
+        ["HELD", ..] => answer.to_string(),
         ["DONE", ..] if word == "interrupt" => answer.to_string(),
         [first, ..] => first.to_string(),
         [] => String::new(),

@@ -1,7 +1,8 @@
-//! Values worked out by hand from document 01, from request C-11 in `tests/chaining.rs` and from C-24
-//! in `tests/shuffled.rs`.
+//! Values worked out by hand from document 01, from request C-11 in `tests/chaining.rs`, from C-12 in
+//! `tests/orders.rs` and from C-24 in `tests/shuffled.rs`.
 
 mod chaining;
+mod orders;
 mod shuffled;
 
 use crate::model::{Network, Row, PAGE, RAM};
@@ -171,7 +172,7 @@ fn laps_of_two_and_of_sixty() {
     let mut desk = Desk::loaded(&ids[..60]);
     assert!(desk.answer("lap 70").starts_with("DONE 316 1 0 198 2 1 2 "));
     desk.gives("size 66384", "DONE");
-    desk.gives(&format!("load {}", order(&ids)), "REFUSED 14 ORDER");
+    desk.gives(&format!("load {}", order(&ids)), "REFUSED 14 LENGTH");
     desk.gives("fresh 61", "REFUSED 4 VALUE");
 }
 
@@ -624,11 +625,11 @@ fn a_holder_off_line_is_shape() {
 fn lengths() {
     let mut desk = Desk(Prompt::new());
     desk.gives("check", "REFUSED 1 SHAPE");
-    desk.gives("load", "REFUSED 14 ORDER");
+    desk.gives("load", "REFUSED 14 LENGTH");
     desk.gives("fresh 0", "REFUSED 4 VALUE");
     desk.gives("fresh 1", "REFUSED 13 ROOM");
     desk.gives(&format!("load {}", order(&SAMPLE)), "REFUSED 13 ROOM");
-    desk.gives(&format!("load {}00", order(&SAMPLE)), "REFUSED 14 ORDER");
+    desk.gives(&format!("load {}00", order(&SAMPLE)), "REFUSED 14 LENGTH");
     let mut desk = Desk::sample();
     for length in [3279, 3281, 15, 16, 1104] {
         desk.gives(&format!("size {length}"), "DONE");
@@ -636,26 +637,6 @@ fn lengths() {
     }
     desk.gives("size 3280", "DONE");
     desk.gives("step 0", "RECOVERED 2");
-}
-
-#[test]
-fn orders_refused() {
-    let good = order(&[(7, 3, "A B ~")]);
-    let mut desk = Desk(Prompt::new());
-    desk.gives("size 1104", "DONE");
-    let bad = [
-        good.replacen("4F52", "4F53", 1),
-        order(&[(0, 0, "A")]),
-        order(&[(7, 4, "A")]),
-        order(&[(7, 0, " A")]),
-        order(&[(7, 0, "A\x7f")]),
-        order(&[(7, 0, "A\x1f")]),
-        order(&[(7, 0, "A"), (7, 0, "B")]),
-    ];
-    for order in bad {
-        desk.gives(&format!("load {order}"), "REFUSED 14 ORDER");
-    }
-    desk.gives(&format!("load {good}"), "DONE");
 }
 
 #[test]
