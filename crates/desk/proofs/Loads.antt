@@ -1,4 +1,5 @@
--- Loading: the writes of a row, and the network that an order gives.
+-- Loading: the writes of a row, the network that an order gives, and its lap.
 pub mod LoadRow
 pub mod LoadSteps
 pub mod Loaded
+pub mod Nodes

@@ -90,6 +90,7 @@ fn answer(order: &[u8], net: &mut [u8])
     }
     let l = lap_list(&mut net[0..size]);
     if l.lapped.number != 0 {
+        // An order that was loaded is refused for one record alone, since the list has room (`TheLoading.lap`).
         refuse(l.lapped.number, 0);
         clerk::alone();
         return;

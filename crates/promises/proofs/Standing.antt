@@ -5,6 +5,7 @@ use Rattle.table.proofs.Access.ShapeCalls.{shape-read, shape-write, shape-reset
 use Rattle.line.proofs.Steps.StepBy.{sound-step}
 use Rattle.promises.specs.Promises.{StaysWellFormed, LoadingGives}
 use Rattle.desk.proofs.Loads.Loaded.{loaded-shape, loaded-rows, loaded-lost, loaded-row}
+use Rattle.desk.proofs.Loads.Nodes.{loaded-nodes, loaded-lap}
 use Rattle.desk.proofs.Lapping.Walking.{shape-lap}
 
 pub stays-well-formed : StaysWellFormed
@@ -20,4 +21,10 @@ stays-well-formed = record {
 }
 
 pub loading-gives : LoadingGives
-loading-gives order net z = record { count = loaded-rows order net z; lost = loaded-lost order net z; row = loaded-row order net z }
+loading-gives order net z = record {
+  count = loaded-rows order net z;
+  lost = loaded-lost order net z;
+  row = loaded-row order net z;
+  on-line = loaded-nodes order net z;
+  lap = loaded-lap order net z;
+}

@@ -4,13 +4,13 @@ use mathlib.Core.Path.{_≡_}
 use mathlib.Core.Bool.{Bool, true, false, not, _&&_}
 use mathlib.Core.List.{List, [], _∷_, _++_}
 use Prim.Native.Nat.{ℕ, _+_, _*_, _≤_, _<_}
-use lib.Dec.{eqb}
+use lib.Dec.{eqb, ltb}
 use lib.ListN.{length, getD}
 use Rattle.bits.specs.Words.{among}
 use Rattle.registers.specs.Layout.{at-diagnostic, readChanges}
 use Rattle.registers.specs.Sides.{chaining}
 use Rattle.registers.specs.Plain.{Plain}
-use Rattle.told.specs.Numbers.{numbers, Refusal, _when_, told, rises, Smallest}
+use Rattle.told.specs.Numbers.{ALONE, ROOM, numbers, Refusal, _when_, told, rises, Smallest}
 use Rattle.card.specs.Packets.{shapeOf, dataBytes, CanBeSent, malformed}
 use Rattle.card.specs.Moves.{OnlyAt}
 use Rattle.line.specs.declared.traffic.Outcome.{Outcome}
@@ -101,11 +101,14 @@ pub record StaysWellFormed : Type 0 where
   pub fresh : (net : List ℕ) (n : ℕ) → freshNumber net n ≡ 0 → shape (netAfterFresh net n) ≡ true
   pub load : (order net : List ℕ) → loadNumber order net ≡ 0 → shape (netAfterLoad order net) ≡ true
 
--- ---- what loading gives: a row for each record, in LOST, row k on line with record k's ID
+-- ---- what loading gives: a row for each record, in LOST, row k on line with record k's ID. So the records are the nodes on line, and a lap is refused for one
+-- record alone, or where the lent list is too short for them
 pub record TheLoading (order net : List ℕ) : Type 0 where
   pub count : rows (netAfterLoad order net) ≡ records order
   pub lost : phase (netAfterLoad order net) ≡ LOST
   pub row : (k : ℕ) → k < records order → (onLineAt (netAfterLoad order net) k ≡ true) × (regsAt (netAfterLoad order net) k .id ≡ idAt order k)
+  pub on-line : nodes (netAfterLoad order net) ≡ records order
+  pub lap : (room : ℕ) → lapNumber (netAfterLoad order net) room ≡ told (ALONE when ltb (records order) 2 ∷ ROOM when ltb room (records order) ∷ [])
 
 abbrev pub LoadingGives : Type 0
 LoadingGives = (order net : List ℕ) → loadNumber order net ≡ 0 → TheLoading order net

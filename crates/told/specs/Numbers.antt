@@ -1,4 +1,4 @@
--- Document 01, "Numbers a caller may get": the numbers, a call's refusals, and the number that is told.
+-- Document 01, "Numbers a caller may get", with those of C-12: the numbers, a call's refusals, and the number that is told.
 -- Assumes nothing.
 use mathlib.Core.Path.{_≡_}
 use mathlib.Core.Bool.{Bool, true, false, _&&_}
