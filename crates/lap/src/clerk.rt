@@ -72,6 +72,7 @@ fn printing(name: &[u8]) -> usize
     i
 }
 
+// A byte that does not print or, where all do, a space that is the first.
 fn name(name: &[u8]) {
     let i = printing(name);
     if i == name.len() {
@@ -110,6 +111,7 @@ fn faulty(order: &[u8], number: u8, k: usize)
     }
 }
 
+// LENGTH alone names no record here: the program lends a network of the order's length, so that it is never ROOM.
 pub(crate) fn unfit(order: &[u8], checked: Checked)
     requires { ⌜ recordBytes * checked .bad ≤ length (now order) ⌝ }
 {
