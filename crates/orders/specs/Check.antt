@@ -1,7 +1,7 @@
 -- C-12: what is wrong with an order, and with which record.
 -- Assumes nothing.
 use mathlib.Core.Bool.{Bool, not}
-use mathlib.Core.List.{List, [], _∷_}
+use mathlib.Core.List.{List, [], _∷_, _++_}
 use Prim.Native.Nat.{ℕ, _+_}
 use lib.Dec.{eqb, ltb}
 use Rattle.bits.specs.Words.{pick}
@@ -10,13 +10,14 @@ use Rattle.table.specs.Folds.{seek}
 use Rattle.orders.specs.Form.{records, recordAt, lengthFits, marked, idFits, flagsFit, nameFits, repeats}
 use Rattle.orders.specs.declared.check.Checked.{Checked}
 
--- "MARK 15, ORDER-ID 16, FLAGS 17, NAME 18, TWICE 19, tested in that order within a record", "and TWICE names the later of the two"
-abbrev pub recordRefusals : List ℕ → ℕ → List Refusal
-recordRefusals order k =
-    MARK when not (marked (recordAt order k)) ∷ ORDER-ID when not (idFits (recordAt order k)) ∷ FLAGS when not (flagsFit (recordAt order k))
-    ∷ NAME when not (nameFits (recordAt order k)) ∷ TWICE when repeats order k ∷ []
+-- "MARK 15, ORDER-ID 16, FLAGS 17, NAME 18, TWICE 19, tested in that order within a record": of a record by itself, and of record k of an order
+abbrev pub formRefusals : List ℕ → List Refusal
+formRefusals r = MARK when not (marked r) ∷ ORDER-ID when not (idFits r) ∷ FLAGS when not (flagsFit r) ∷ NAME when not (nameFits r) ∷ []
 
--- the numbers that name a record
+abbrev pub recordRefusals : List ℕ → ℕ → List Refusal
+recordRefusals order k = formRefusals (recordAt order k) ++ (TWICE when repeats order k ∷ [])
+
+-- its numbers, those that name a record
 abbrev pub recordNumbers : List ℕ
 recordNumbers = MARK ∷ ORDER-ID ∷ FLAGS ∷ NAME ∷ TWICE ∷ []
 

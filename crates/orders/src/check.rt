@@ -1,14 +1,15 @@
 // C-12: what is wrong with an order, and with which record.
 ghost use mathlib.Core.Path.{_≡_};
-ghost use Prim.Native.Nat.{_+_, _*_, _≤_};
 ghost use lib.ListN.{length};
+ghost use Rattle.told.specs.Numbers.{told};
 ghost use Rattle.orders.specs.Form.{recordBytes, lengthFits};
-ghost use Rattle.orders.specs.Check.{recordNumber, checked};
+ghost use Rattle.orders.specs.Check.{formRefusals, checked};
 use crate::form::LONG;
 use crate::form::RECEIVE;
 use crate::form::RECORD;
 use crate::form::RECORD_MARK;
 use crate::form::SPACE;
+use crate::form::id_at;
 use crate::form::printable;
 use crate::form::record_at;
 use crate::form::record_of;
@@ -36,19 +37,17 @@ fn length_fits(order: &[u8]) -> bool
     (order.len() % RECORD == 0) & (0 < n) & (n <= ROWS)
 }
 
-// The refusal of record k, DONE where it is good.
-fn record_number(order: &[u8], k: usize) -> u8
-    requires { ⌜ recordBytes * k + recordBytes ≤ length (now order) ⌝ }
-    ensures { λ r. ⌜ r ≡ recordNumber (now (order .entry)) k ⌝ }
+// The refusal of a record by itself, DONE where it fits.
+fn record_number(form: &[u8]) -> u8
+    requires { ⌜ length (now form) ≡ recordBytes ⌝ }
+    ensures { λ r. ⌜ r ≡ told (formRefusals (now (form .entry))) ⌝ }
 {
-    let form = record_at(order, k);
     let marked = (form[0] == RECORD_MARK[0]) & (form[1] == RECORD_MARK[1]);
     let named = (form[4] != SPACE) & printable(&form[4..RECORD]);
     let n = refuse(DONE, MARK, !marked);
     let n = refuse(n, ORDER_ID, form[2] < 1);
     let n = refuse(n, FLAGS, RECEIVE + LONG < form[3]);
-    let n = refuse(n, NAME, !named);
-    refuse(n, TWICE, record_of(order, form[2], k) < k)
+    refuse(n, NAME, !named)
 }
 
 // Any bytes of any length may be asked about.
@@ -64,7 +63,9 @@ pub fn check(order: &[u8]) -> Checked
     let n = records(order);
     let mut k = 0;
     while k < n {
-        let number = record_number(order, k);
+        // Of two records with one ID the later is bad: TWICE asks those before it.
+        let twin = record_of(order, id_at(order, k), k);
+        let number = refuse(record_number(record_at(order, k)), TWICE, twin < k);
         if number != DONE {
             return Checked { number, bad: k + 1 };
         }

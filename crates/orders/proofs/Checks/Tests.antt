@@ -11,9 +11,9 @@ use borrow.Author.Tests.{ltb-true, ltb-false}
 use Rattle.bits.proofs.Words.Bools.{cases}
 use Rattle.table.specs.Folds.{seek}
 use Rattle.table.proofs.Folds.{some-found, some-missed}
-use Rattle.told.specs.Numbers.{DONE, MARK, ORDER-ID, FLAGS, NAME, TWICE, refuse}
+use Rattle.told.specs.Numbers.{DONE, MARK, ORDER-ID, FLAGS, NAME, TWICE, refuse, told}
 use Rattle.orders.specs.Form.{recordAt, idOf, flagsOf, nameOf, printables, marked, idAt, repeats}
-use Rattle.orders.specs.Check.{recordNumber}
+use Rattle.orders.specs.Check.{formRefusals, recordNumber}
 use Rattle.orders.proofs.Forms.Names.{leb-not}
 
 not-not : (b : Bool) → not (not b) ≡ b
@@ -29,11 +29,13 @@ unfolding repeats
 repeats-is order k i a j e =
     ⊎-elim (λ t. t ∙ sym (some-found _ k j (rw a at e) (ltb-true j k t))) (λ t. t ∙ sym (some-missed _ k j (rw a at e) (ltb-false j k t))) (cases (ltb j k))
 
--- the refusals of record k one after the other: p is whether its name prints, j where its ID is found
-pub number-is : (order : List ℕ) (k : ℕ) (r : List ℕ) → r ≡ recordAt order k → (p : Bool) → p ≡ printables (nameOf r)
-    → (j : ℕ) → j ≡ seek (λ m. eqb (idAt order m) (idOf r)) k → (a : ℕ) → a ≡ refuse DONE MARK (not (marked r)) → (b : ℕ) → b ≡ refuse a ORDER-ID (ltb (idOf r) 1)
-    → (c : ℕ) → c ≡ refuse b FLAGS (ltb 3 (flagsOf r)) → (d : ℕ) → d ≡ refuse c NAME (not (not (eqb (getD r 4 0) 0x20) && p))
-    → refuse d TWICE (ltb j k) ≡ recordNumber order k
+-- the refusals of a record by itself one after the other: p is whether its name prints
+pub form-is : (r : List ℕ) (p : Bool) → p ≡ printables (nameOf r) → (a : ℕ) → a ≡ refuse DONE MARK (not (marked r)) → (b : ℕ) → b ≡ refuse a ORDER-ID (ltb (idOf r) 1)
+    → (c : ℕ) → c ≡ refuse b FLAGS (ltb 3 (flagsOf r)) → refuse c NAME (not (not (eqb (getD r 4 0) 0x20) && p)) ≡ told (formRefusals r)
+form-is r p q a ea b eb c ec = rw (ec, eb, ea, q, above (idOf r) 1, above 3 (flagsOf r))
+
+-- and of record k, whose ID i is found at j
+pub number-is : (order : List ℕ) (k : ℕ) (r : List ℕ) → r ≡ recordAt order k → (m : ℕ) → m ≡ told (formRefusals r) → (i : ℕ) → i ≡ idAt order k
+    → (j : ℕ) → j ≡ seek (λ m. eqb (idAt order m) i) k → refuse m TWICE (ltb j k) ≡ recordNumber order k
 unfolding recordNumber
-number-is order k r f p q j e a ea b eb c ec d ed =
-    rw (ed, ec, eb, ea, q, above (idOf r) 1, above 3 (flagsOf r), repeats-is order k (idOf r) (ap idOf f) j e, f)
+number-is order k r f m g i a j e = rw (g, f, repeats-is order k i a j e)

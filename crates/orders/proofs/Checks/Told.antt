@@ -3,7 +3,7 @@
 use mathlib.Core.Path.{_≡_, sym, _∙_, ap}
 use mathlib.Core.Bool.{true, false, not}
 use mathlib.Core.List.{List}
-use Prim.Native.Nat.{ℕ, _+_, _<_}
+use Prim.Native.Nat.{ℕ, _+_, _≤_, _<_}
 use native.Mathlib.Omega.{arith}
 use lib.Dec.{eqb, ltb}
 use borrow.Author.Tests.{ne-eqb, eq-eqb, eqb-true, eqb-false, ltb-true, ltb-false, lt-ltb, le-ltb, not-true, not-false}
@@ -41,16 +41,22 @@ module _ (order : List ℕ) where
   pub goes-on : (k : ℕ) → seek (refused order) k ≡ k → (m : ℕ) → m ≡ recordNumber order k → m ≡ DONE → seek (refused order) (k + 1) ≡ k + 1
   goes-on k s m p z = seek-more (refused order) k s (ap not (eq-eqb _ _ (sym p ∙ z)))
 
-  -- ---- what is told is one of three: LENGTH; the refusal of a record, none before it being refused; DONE, where none is
-  is-good : (j : ℕ) → refused order j ≡ false → recordNumber order j ≡ DONE
-  is-good j t = eqb-true _ _ (not-false (eqb (recordNumber order j) DONE) t)
+  -- ---- the record that is found: it is refused where there is one, and none before it is
+  first-refused : firstBad order < records order → refused order (firstBad order) ≡ true
+  unfolding firstBad
+  first-refused b = seek-found (refused order) (records order) b
+
+  first-below : (j : ℕ) → j < firstBad order → refused order j ≡ false
+  unfolding firstBad
+  first-below j b = seek-least (refused order) (records order) j b
 
   abbrev pub Good : ℕ → Type 0
   Good n = (j : ℕ) → j < n → recordNumber order j ≡ DONE
 
-  good-below : (n j : ℕ) → j < seek (refused order) n → recordNumber order j ≡ DONE
-  good-below n j b = is-good j (seek-least (refused order) n j b)
+  good-below : (n : ℕ) → n ≤ firstBad order → Good n
+  good-below n h j b = eqb-true _ _ (not-false (eqb (recordNumber order j) DONE) (first-below j (omega arith)))
 
+  -- ---- what is told is one of three: LENGTH; the refusal of a record, none before it being refused; DONE, where none is
   pub record First (k : ℕ) : Type 0 where
     pub sized : lengthFits order ≡ true
     pub there : k < records order
@@ -60,16 +66,16 @@ module _ (order : List ℕ) where
   module _ (P : Checked → Type 0) (short : lengthFits order ≡ false → P (tells LENGTH 0)) (bad : (k : ℕ) → First k → P (tells (recordNumber order k) (k + 1)))
       (good : lengthFits order ≡ true → Good (records order) → P (tells DONE 0)) where
     pub checked-of : P (checked order)
-    unfolding checked firstBad
+    unfolding checked
     checked-of =
-        let n = records order in
-        let k = seek (refused order) n in
+        let k = firstBad order in
         pick-of P (not (lengthFits order)) (λ t. short (not-true _ t))
-        (λ t. pick-of P (ltb k n)
-        (λ b. bad k (record {
+        (λ t. pick-of P (ltb k (records order))
+        (λ b. let l = ltb-true k (records order) b in
+        bad k (record {
           sized = not-false (lengthFits order) t;
-          there = ltb-true k n b;
-          before = good-below n;
-          fault = eqb-false _ _ (not-true (eqb (recordNumber order k) DONE) (seek-found (refused order) n (ltb-true k n b)));
+          there = l;
+          before = good-below k (omega arith);
+          fault = eqb-false _ _ (not-true (eqb (recordNumber order k) DONE) (first-refused l));
         }))
-        (λ b. good (not-false (lengthFits order) t) (λ j l. good-below n j (omega (arith, ltb-false k n b)))))
+        (λ b. good (not-false (lengthFits order) t) (good-below (records order) (ltb-false k (records order) b))))
