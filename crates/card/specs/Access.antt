@@ -1,30 +1,39 @@
 -- Document 01, "Registers": what a register access that is not refused does to a row's bytes.
 -- Assumes nothing.
+use mathlib.Core.Bool.{Bool}
 use mathlib.Core.List.{List, _++_}
 use Prim.Native.Nat.{ℕ, _+_, _-_}
 use lib.Dec.{eqb}
 use lib.ListN.{getD, set, replicate}
 use Rattle.bits.specs.Words.{pick}
 use Rattle.card.specs.Row.{registerBytes, rowBytes, mark, regsOf, putRegs}
-use Rattle.registers.specs.Registers.{pointer, readValue, afterRead, afterWrite, hardwareReset}
+use Rattle.registers.specs.declared.regs.Regs.{Regs}
+use Rattle.registers.specs.Registers.{pointer, readFetches, writeFetches, fetched, readValue, afterRead, afterWrite, hardwareReset}
 
 -- where the RAM byte of register 4 stands in the row
 abbrev pub pointed : List ℕ → ℕ
 pointed r = registerBytes + pointer (regsOf r)
 
+-- the row that an access leaves with the registers g; C-13: where it fetches, the fetched byte is the RAM byte at their pointer
+abbrev pub ramAt : List ℕ → Regs → ℕ
+ramAt r g = getD r (registerBytes + pointer g) 0
+
+abbrev pub accessed : List ℕ → Bool → Regs → List ℕ
+accessed r fetches g = putRegs r (fetched fetches (ramAt r g) g)
+
 -- what a read gives, and the row after it
 unfoldable pub valueRead : List ℕ → ℕ → ℕ
-valueRead r k = readValue (regsOf r) (getD r (pointed r) 0) k
+valueRead r k = readValue (regsOf r) k
 
 unfoldable pub rowAfterRead : List ℕ → ℕ → List ℕ
-rowAfterRead r k = putRegs r (afterRead (regsOf r) k)
+rowAfterRead r k = accessed r (readFetches (regsOf r) k) (afterRead (regsOf r) k)
 
 -- "Register 4 .. writes the RAM byte at the pointer"
 abbrev pub ramWritten : List ℕ → ℕ → ℕ → ℕ → List ℕ
 ramWritten r k a v = pick (eqb k 4) (set r a v) r
 
 unfoldable pub rowAfterWrite : List ℕ → ℕ → ℕ → List ℕ
-rowAfterWrite r k v = putRegs (ramWritten r k (pointed r) v) (afterWrite (regsOf r) k v)
+rowAfterWrite r k v = accessed (ramWritten r k (pointed r) v) (writeFetches k) (afterWrite (regsOf r) k v)
 
 -- "Hardware reset: .. RAM kept"
 abbrev pub rowAfterReset : List ℕ → List ℕ

@@ -3,7 +3,7 @@ ghost use mathlib.Core.Path.{_≡_};
 ghost use Prim.Native.Nat.{_≤_, _<_};
 ghost use lib.ListN.{length, replicate};
 ghost use Rattle.card.specs.Row.{registerBytes, rowBytes, rowSize, Whole, regsOf, putRegs, zeros, wellFormed};
-ghost use Rattle.card.specs.Access.{valueRead, rowAfterRead, ramWritten, rowAfterWrite, rowAfterReset, freshRow};
+ghost use Rattle.card.specs.Access.{accessed, valueRead, rowAfterRead, ramWritten, rowAfterWrite, rowAfterReset, freshRow};
 use queues::queues::Queue;
 use registers::regs::Later;
 use registers::regs::Regs;
@@ -141,6 +141,15 @@ pub fn hardware_reset(row: &mut [u8])
     store(row, Regs::hardware_reset());
 }
 
+// The registers that an access leaves. C-13: where it fetches, the RAM byte at their pointer goes to byte 32.
+fn put_accessed(row: &mut [u8], fetches: bool, g: Regs)
+    requires { ⌜ Whole (now row) ⌝ }
+    ensures { λ _. ⌜ now (row .exit) ≡ accessed (now (row .entry)) fetches g ⌝ }
+{
+    let ram = row[REGISTER_BYTES + g.pointer()];
+    store(row, g.fetched(fetches, ram));
+}
+
 // A register of the card is read; `Regs::read_number` says whether it can be.
 pub fn read(row: &mut [u8], register: usize) -> u8
     requires { ⌜ Whole (now row) ⌝ }
@@ -148,10 +157,8 @@ pub fn read(row: &mut [u8], register: usize) -> u8
     ensures bytes { λ _. ⌜ now (row .exit) ≡ rowAfterRead (now (row .entry)) register ⌝ }
 {
     let g = load(row);
-    let at = REGISTER_BYTES + g.pointer();
-    let value = g.read_value(row[at], register);
-    store(row, g.after_read(register));
-    value
+    put_accessed(row, g.read_fetches(register), g.after_read(register));
+    g.read_value(register)
 }
 
 // Register 4 writes the RAM byte at the pointer; the others write none.
@@ -171,5 +178,9 @@ pub fn write(row: &mut [u8], register: usize, value: u8)
 {
     let g = load(row);
     write_ram(row, register, REGISTER_BYTES + g.pointer(), value);
-    store(row, g.after_write(register, value));
+    put_accessed(
+        row,
+        Regs::write_fetches(register),
+        g.after_write(register, value),
+    );
 }

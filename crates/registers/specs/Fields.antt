@@ -45,3 +45,6 @@ with-receive v g = record { id = g .id; status = g .status; diagnostic = g .diag
 
 abbrev pub with-long : ℕ → Regs → Regs
 with-long v g = record { id = g .id; status = g .status; diagnostic = g .diagnostic; mask = g .mask; configuration = g .configuration; setup = g .setup; tentative = g .tentative; nid = g .nid; high = g .high; low = g .low; mode = g .mode; transmit = g .transmit; receive = g .receive; long = v; later = g .later }
+
+abbrev pub with-fetched : ℕ → Regs → Regs
+with-fetched v g = record { id = g .id; status = g .status; diagnostic = g .diagnostic; mask = g .mask; configuration = g .configuration; setup = g .setup; tentative = g .tentative; nid = g .nid; high = g .high; low = g .low; mode = g .mode; transmit = g .transmit; receive = g .receive; long = g .long; later = record { fetched = v; naklow = g .later .naklow; nakhigh = g .later .nakhigh } }

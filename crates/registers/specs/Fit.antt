@@ -17,12 +17,13 @@ awake g = not (eqb (g .id) 0) && clear RESET (g .configuration)
 unfoldable pub onLine : Regs → Bool
 onLine g = awake g && has TXEN (g .configuration)
 
--- "Unnamed bits are zero", but for the queues; every bit of the configuration has a name. Bytes 32 to 34 are "16-63 zero" yet
+-- "Unnamed bits are zero", but for the queues; every bit of the configuration has a name. C-13: byte 32 "may hold anything"; 33 and 34 are
+-- "16-63 zero" yet
 abbrev pub named : Regs → List Bool
 named g =
     only statusBits (g .status) ∷ only diagnosticBits (g .diagnostic) ∷ only maskBits (g .mask) ∷ only setupBits (g .setup)
     ∷ only LOW2 (g .high) ∷ only modeBits (g .mode) ∷ only 1 (g .long)
-    ∷ eqb (g .later .fetched) 0 ∷ eqb (g .later .naklow) 0 ∷ eqb (g .later .nakhigh) 0 ∷ []
+    ∷ eqb (g .later .naklow) 0 ∷ eqb (g .later .nakhigh) 0 ∷ []
 
 -- and each side agrees with the status, with long packets and with CCHEN
 unfoldable pub fit : Regs → Bool

@@ -66,7 +66,7 @@ at-sent = 18
 abbrev pub at-received : ℕ
 at-received = 19
 
--- the bytes that the requests C-13 and C-16 use: 32, 33 and 34
+-- C-13: "Keep that byte in row byte 32"; and the bytes that the request C-16 uses, 33 and 34
 abbrev pub at-fetched : ℕ
 at-fetched = 32
 
@@ -100,23 +100,23 @@ abbrev pub queueBytes : Bool → List ℕ
 queueBytes chaining = transmitBytes chaining ++ receiveBytes chaining
 
 -- the register bytes that a hardware reset may change: "ID, tentative ID, NID, mask, setup, pointer, mode and diagnostic 0, configuration 18 hex, status 91 hex,
--- bytes 13-15 zero"; C-11: 16-31 too
+-- bytes 13-15 zero"; C-11: 16-31 too; C-13: byte 32
 abbrev pub resetBytes : Bool → List ℕ
 resetBytes chaining =
-    at-id ∷ at-tentative ∷ at-nid ∷ at-mask ∷ at-setup ∷ at-high ∷ at-low ∷ at-mode ∷ at-diagnostic ∷ at-configuration ∷ at-status ∷ at-long ∷ queueBytes chaining
+    at-id ∷ at-tentative ∷ at-nid ∷ at-mask ∷ at-setup ∷ at-high ∷ at-low ∷ at-mode ∷ at-diagnostic ∷ at-configuration ∷ at-status ∷ at-long ∷ at-fetched ∷ queueBytes chaining
 
--- those that a read may change: "1 gives diagnostic status and then zeroes it"; of 4, the pointer
+-- those that a read may change: "1 gives diagnostic status and then zeroes it"; of 4, the pointer and the fetched byte
 abbrev pub readChanges : ℕ → List ℕ
-readChanges k = pick (eqb k 1) (at-diagnostic ∷ []) (pick (eqb k 4) (at-high ∷ at-low ∷ []) [])
+readChanges k = pick (eqb k 1) (at-diagnostic ∷ []) (pick (eqb k 4) (at-high ∷ at-low ∷ at-fetched ∷ []) [])
 
--- those that a write may change, of a card with the registers g: the mask; what a command does; mode; the pointer; what a software reset does, and the configuration;
--- "7 by sub-address"
+-- those that a write may change, of a card with the registers g: the mask; what a command does; mode; of 3, the pointer and the fetched byte;
+-- of 4, the pointer; what a software reset does, and the configuration; "7 by sub-address"
 abbrev pub writeBytes : Bool → Regs → ℕ → List ℕ
 writeBytes chaining g k =
     pick (eqb k 0) (at-mask ∷ [])
     (pick (eqb k 1) (at-status ∷ at-long ∷ queueBytes chaining)
     (pick (eqb k 2) (at-mode ∷ [])
-    (pick (eqb k 3) (at-high ∷ at-low ∷ [])
+    (pick (eqb k 3) (at-high ∷ at-low ∷ at-fetched ∷ [])
     (pick (eqb k 4) (at-high ∷ at-low ∷ [])
     (pick (eqb k 6) (at-configuration ∷ at-status ∷ at-diagnostic ∷ at-mask ∷ at-long ∷ queueBytes chaining)
     (pick (eqb k 7) (pick (eqb (sub g) 0) (at-tentative ∷ []) (pick (eqb (sub g) 1) (at-id ∷ []) (at-setup ∷ []))) []))))))

@@ -9,7 +9,7 @@ use Rattle.commands.specs.declared.commands.Command.{Command}
 use Rattle.commands.specs.declared.commands.Command.the-variants.{Illegal, Disable, Enable, LongPackets, ClearFlags, Clear}
 use Rattle.bits.specs.Words.{pick, clear, has, raiseIf, lower}
 use Rattle.bits.specs.Flags.{RI, POR, RECON, TMA, TA, TRI, shownRI, shownTA, TTA, RESET, CCHEN, RDDATA, AUTO-INC}
-use Rattle.registers.specs.Fields.{with-id, with-status, with-diagnostic, with-mask, with-configuration, with-setup, with-tentative, with-high, with-low, with-mode, with-transmit, with-receive, with-long}
+use Rattle.registers.specs.Fields.{with-id, with-status, with-diagnostic, with-mask, with-configuration, with-setup, with-tentative, with-high, with-low, with-mode, with-transmit, with-receive, with-long, with-fetched}
 use Rattle.queues.specs.Queues.{none, cleared, enabled, disabled}
 use Rattle.registers.specs.Sides.{chaining, sideOf, withSide, tta, tri}
 use Rattle.commands.specs.Commands.{commandOf}
@@ -33,6 +33,16 @@ risen g = (pointer g + 1) % ramBytes
 unfoldable pub stepped : Regs → Regs
 stepped g = pick (has AUTO-INC (g .mode)) (with-high (risen g / 256) (with-low (risen g % 256) g)) g
 
+-- C-13: "the card fetches the byte when the low pointer is loaded, and again after an incremented read"; only these fetch. The byte m is fetched, or none is
+abbrev pub writeFetches : ℕ → Bool
+writeFetches k = eqb k 3
+
+abbrev pub readFetches : Regs → ℕ → Bool
+readFetches g k = eqb k 4 && has AUTO-INC (g .mode)
+
+abbrev pub fetched : Bool → ℕ → Regs → Regs
+fetched fetches m g = with-fetched (pick fetches m (g .later .fetched)) g
+
 -- "Register 7 by sub-address: 00 tentative ID, 01 node ID, 10 setup"
 abbrev pub seventh : Regs → ℕ
 seventh g = pick (eqb (sub g) 0) (g .tentative) (pick (eqb (sub g) 1) (g .id) (g .setup))
@@ -45,14 +55,14 @@ shown g =
     (g .status)
 
 -- "1 gives diagnostic status ..; 2 gives RDDATA, AUTO-INC and the pointer's A9-A8; 3 its low byte; 6 configuration";
--- 4 gives the RAM byte m at the pointer
-unfoldable pub readValue : Regs → ℕ → ℕ → ℕ
-readValue g m k =
+-- C-13: of 4, "a read answers the fetched byte"
+unfoldable pub readValue : Regs → ℕ → ℕ
+readValue g k =
     pick (eqb k 0) (shown g)
     (pick (eqb k 1) (g .diagnostic)
     (pick (eqb k 2) (bitOr (bitAnd (g .mode) (RDDATA + AUTO-INC)) (g .high % 4))
     (pick (eqb k 3) (g .low)
-    (pick (eqb k 4) m
+    (pick (eqb k 4) (g .later .fetched)
     (pick (eqb k 6) (g .configuration)
     (pick (eqb k 7) (seventh g) 0))))))
 
@@ -60,7 +70,8 @@ readValue g m k =
 unfoldable pub afterRead : Regs → ℕ → Regs
 afterRead g k = pick (eqb k 1) (with-diagnostic 0 g) (pick (eqb k 4) (stepped g) g)
 
--- "Hardware reset: ID, tentative ID, NID, mask, setup, pointer, mode and diagnostic 0, configuration 18 hex, status 91 hex, bytes 13-15 zero"; C-11: 16-31 too
+-- "Hardware reset: ID, tentative ID, NID, mask, setup, pointer, mode and diagnostic 0, configuration 18 hex, status 91 hex, bytes 13-15 zero"; C-11: 16-31 too;
+-- C-13: "sets it to 0"
 unfoldable pub hardwareReset : Regs
 hardwareReset = record {
   id = 0;
@@ -80,7 +91,8 @@ hardwareReset = record {
   later = record { fetched = 0; naklow = 0; nakhigh = 0 };
 }
 
--- "Writing RESET = 1: status 91, diagnostic and mask 0, bytes 13-15 zero", 16-31 too. "The new configuration is stored"
+-- "Writing RESET = 1: status 91, diagnostic and mask 0, bytes 13-15 zero", 16-31 too. "The new configuration is stored"; C-13: it "keeps" the
+-- fetched byte
 abbrev pub softwareReset : Regs → Regs
 softwareReset g = with-status 0x91 (with-diagnostic 0 (with-mask 0 (with-transmit none (with-receive none (with-long 0 g)))))
 

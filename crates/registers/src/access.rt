@@ -1,7 +1,7 @@
-// Document 01, "Registers": what reading and writing a register gives and leaves, register 4's pointer, the software reset
-// and the effects of the commands.
+// Document 01, "Registers": what reading and writing a register gives and leaves, register 4's pointer and, by C-13, its
+// fetched byte, the software reset and the effects of the commands.
 ghost use mathlib.Core.Path.{_≡_};
-ghost use Rattle.registers.specs.Registers.{sub, pointer, stepped, seventh, shown, readValue, afterRead, changesChaining, rechained, configured, commanded, writesId, seventhWritten, afterWrite};
+ghost use Rattle.registers.specs.Registers.{sub, pointer, stepped, readFetches, writeFetches, fetched, seventh, shown, readValue, afterRead, changesChaining, rechained, configured, commanded, writesId, seventhWritten, afterWrite};
 use crate::regs::AFTER_RESET;
 use crate::regs::Regs;
 use bits::choice::choose;
@@ -44,6 +44,29 @@ impl Regs {
         g
     }
 
+    // C-13: "Only a pointer load or an incremented read fetches".
+    pub fn read_fetches(self, register: usize) -> bool
+        ensures { λ r. ⌜ r ≡ readFetches self register ⌝ }
+    {
+        (register == 4) & (self.mode & AUTO_INC != 0)
+    }
+
+    pub fn write_fetches(register: usize) -> bool
+        ensures { λ r. ⌜ r ≡ writeFetches register ⌝ }
+    {
+        register == 3
+    }
+
+    // The registers of an access that fetches `ram`, the RAM byte at their pointer, or does not.
+    pub fn fetched(self, fetches: bool, ram: u8) -> Regs
+        ensures { λ r. ⌜ r ≡ fetched fetches ram self ⌝ }
+    {
+        let byte = choose(fetches, ram, self.later.fetched);
+        let mut g = self;
+        g.later.fetched = byte;
+        g
+    }
+
     // What register 7 is, by sub-address: 00 tentative ID, 01 node ID, 10 setup.
     pub(crate) fn sub_address(self) -> u8
         ensures { λ r. ⌜ r ≡ sub self ⌝ }
@@ -74,16 +97,16 @@ impl Regs {
         choose(self.chaining(), flags, self.status)
     }
 
-    // What a read of a register gives; `ram` is the RAM byte at the pointer.
-    pub fn read_value(self, ram: u8, register: usize) -> u8
-        ensures { λ r. ⌜ r ≡ readValue self ram register ⌝ }
+    // What a read of a register gives.
+    pub fn read_value(self, register: usize) -> u8
+        ensures { λ r. ⌜ r ≡ readValue self register ⌝ }
     {
         match register {
             0 => self.shown(),
             1 => self.diagnostic,
             2 => self.mode & (RDDATA | AUTO_INC) | self.high % 4,
             3 => self.low,
-            4 => ram,
+            4 => self.later.fetched,
             6 => self.configuration,
             7 => self.seventh(),
             _ => 0,

@@ -22,7 +22,7 @@ use queues::queues::Queue;
 // "status 91 hex", after a reset of either kind.
 pub(crate) const AFTER_RESET: u8 = RI | POR | TA;
 
-// Bytes 32 to 34 of a row: zero, until C-13 and C-16 use them.
+// Bytes 32 to 34 of a row: the byte that register 4 reads (C-13), and two that are zero until C-16 uses them.
 pub struct Later {
     pub fetched: u8,
     pub naklow: u8,
@@ -75,7 +75,6 @@ impl Regs {
             & (self.high & !LOW2 == 0)
             & (self.mode & !MODE == 0)
             & (self.long & !1 == 0)
-            & (self.later.fetched == 0)
             & (self.later.naklow == 0)
             & (self.later.nakhigh == 0);
         named

@@ -15,7 +15,7 @@ use Rattle.card.specs.declared.packets.Packet.{Packet}
 use Rattle.bits.specs.Words.{among}
 use Rattle.registers.specs.Layout.{at-id, at-received, at-fetched, at-nak-high, resetBytes, readChanges, writeChanges}
 use Rattle.registers.specs.Sides.{chaining}
-use Rattle.registers.specs.Registers.{hardwareReset}
+use Rattle.registers.specs.Registers.{pointer, hardwareReset}
 use Rattle.bits.proofs.Words.Bools.{cases, and-left, and-right, and-true, and-false, or-left, or-right, pick-of}
 use Rattle.registers.proofs.Values.Keeps.{Keeps}
 use Rattle.registers.proofs.Values.KeepsCalls.{keeps-read}
@@ -28,7 +28,7 @@ use Rattle.card.specs.Moves.{OnlyAt, inPacket, writeMoves}
 use Rattle.card.proofs.Rows.Sizes.{whole-registers}
 use Rattle.card.proofs.Rows.Bytes.{regs-same, length-put, put-rest, put-at, put-later, regs-at, later-at, well-fit}
 use Rattle.card.proofs.Pages.Stored.{length-stored, stored-outside, stored-gap}
-use Rattle.card.proofs.Rows.Accesses.{length-ram}
+use Rattle.card.proofs.Rows.Accesses.{size-ram}
 
 pub only-stays : (moves : ℕ → Bool) (r : List ℕ) → OnlyAt moves r r
 only-stays moves r = record { size = refl; same = λ i e. refl }
@@ -104,7 +104,7 @@ module _ (r : List ℕ) (a : ℕ) (k : Packet) (f : a + pageBytes (k .shape) ≤
 module _ (r : List ℕ) (l : Whole r) where
   pub only-read : (k : ℕ) → OnlyAt (among (readChanges k)) r (rowAfterRead r k)
   unfolding rowAfterRead
-  only-read k = only-put (readChanges k) r _ (whole-registers r l) (keeps-read (regsOf r) k)
+  only-read k = only-put (readChanges k) r _ (whole-registers r l) (keeps-read (regsOf r) k _)
 
   -- a write of register 4 writes the RAM byte too
   pub only-write : wellFormed r ≡ true → (k v : ℕ) → OnlyAt (writeMoves r k) r (rowAfterWrite r k v)
@@ -116,7 +116,7 @@ module _ (r : List ℕ) (l : Whole r) where
       (pick-of (λ (x : List ℕ). OnlyAt (writeMoves r k) r x) (eqb k 4)
       (λ t. only-wider r _ (λ i f. rw t at (or-right (among (writeChanges (regsOf r) k) i) _ f)) (only-set r (pointed r) v)) (λ _. only-stays _ r))
       (only-wider m _ (λ i f. or-left _ (eqb k 4 && eqb i (pointed r)) f)
-      (only-put (writeChanges (regsOf r) k) m _ (omega (arith, whole-registers r l, length-ram r k (pointed r) v)) (rw e (keeps-changes (regsOf r) (λ c. unqueued-fit (regsOf r) c (well-fit r w)) k v))))
+      (only-put (writeChanges (regsOf r) k) m _ (omega (arith, whole-registers r l, size-ram r k (pointer (regsOf r)) v .long)) (rw e (keeps-changes (regsOf r) (λ c. unqueued-fit (regsOf r) c (well-fit r w)) k v _))))
 
   pub only-reset : wellFormed r ≡ true → OnlyAt (among (resetBytes (chaining (regsOf r)))) r (rowAfterReset r)
   only-reset w = only-put (resetBytes (chaining (regsOf r))) r hardwareReset (whole-registers r l) (keeps-hardware (regsOf r) (well-fit r w))

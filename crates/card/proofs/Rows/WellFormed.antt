@@ -13,15 +13,15 @@ use Rattle.registers.specs.declared.regs.Regs.{Regs}
 use Rattle.card.specs.declared.packets.Packet.{Packet}
 use Rattle.card.specs.Row.{registerBytes, rowBytes, regsOf, putRegs, marked, zeros, spare, wellFormed, mark, rowSize, Whole}
 use Rattle.registers.specs.Fit.{onLine}
-use Rattle.registers.specs.Registers.{afterRead, afterWrite, hardwareReset}
+use Rattle.registers.specs.Registers.{pointer, hardwareReset}
 use Rattle.registers.specs.Refusals.{writeNumber}
 use Rattle.card.specs.Access.{pointed, rowAfterRead, ramWritten, rowAfterWrite, rowAfterReset, freshRow}
 use Rattle.card.specs.Packets.{dataAt, pageBytes, stored, stamped}
 use Rattle.bits.proofs.Words.Bools.{pick-of}
 use Rattle.card.proofs.Rows.Bytes.{regs-same, size-put, well-fit, well-same, well-put, regs-put}
 use Rattle.registers.proofs.Values.Fits.{Fit, fit-rules, rules-fit}
-use Rattle.card.proofs.Rows.Sizes.{SameSize, size-same, size-then, size-set, whole-registers}
-use Rattle.card.proofs.Rows.Accesses.{length-ram}
+use Rattle.card.proofs.Rows.Sizes.{SameSize, size-then, whole-registers}
+use Rattle.card.proofs.Rows.Accesses.{size-ram}
 use Rattle.registers.proofs.Values.FitCalls.{fit-read, fit-write, fit-reset}
 use Rattle.card.proofs.Pages.Stored.{stored-outside, length-stored}
 use Rattle.registers.proofs.Values.SameCard.{reset-off}
@@ -58,7 +58,7 @@ module _ (r : List ℕ) where
   pub size-write : (k v : ℕ) → SameSize r (rowAfterWrite r k v)
   unfolding rowAfterWrite
   size-write k v =
-      size-then (pick-of (λ (x : List ℕ). SameSize r x) (eqb k 4) (λ _. size-set r (pointed r) v (omega arith)) (λ _. size-same r)) (size-put (ramWritten r k (pointed r) v) _)
+      size-then (size-ram r k (pointer (regsOf r)) v) (size-put (ramWritten r k (pointed r) v) _)
 
 module _ (r : List ℕ) (l : Whole r) where
   registers : registerBytes ≤ length r
@@ -91,7 +91,7 @@ module _ (r : List ℕ) (l : Whole r) where
 
     pub well-read : (k : ℕ) → wellFormed (rowAfterRead r k) ≡ true
     unfolding rowAfterRead
-    well-read k = well-regs (afterRead (regsOf r) k) (fit-read (regsOf r) fits k)
+    well-read k = well-regs _ (fit-read (regsOf r) fits k _)
 
     ram-well : (k v : ℕ) → wellFormed (ramWritten r k (pointed r) v) ≡ true
     ram-well k v = pick-of (λ (x : List ℕ). wellFormed x ≡ true) (eqb k 4) (λ _. well-set (pointed r) v (omega arith) ∙ w) (λ _. w)
@@ -100,8 +100,8 @@ module _ (r : List ℕ) (l : Whole r) where
     pub well-write : (k v : ℕ) → writeNumber (regsOf r) k v ≡ 0 → wellFormed (rowAfterWrite r k v) ≡ true
     unfolding rowAfterWrite
     well-write k v e =
-        well-put (ramWritten r k (pointed r) v) (afterWrite (regsOf r) k v) (omega (arith, registers, length-ram r k (pointed r) v)) (ram-well k v)
-        (rules-fit _ (fit-write (regsOf r) fits k v e))
+        well-put (ramWritten r k (pointed r) v) _ (omega (arith, registers, size-ram r k (pointer (regsOf r)) v .long)) (ram-well k v)
+        (rules-fit _ (fit-write (regsOf r) fits k v e _))
 
     pub well-stamped : (a : ℕ) → registerBytes ≤ a → wellFormed (stamped r a) ≡ true
     unfolding stamped

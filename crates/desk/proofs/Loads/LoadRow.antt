@@ -1,6 +1,6 @@
 -- The writes that load a row that was reset, in LOST: none is refused, and the row comes on line with its ID.
 -- Assumes nothing.
-use mathlib.Core.Path.{_≡_, sym, _∙_, ap}
+use mathlib.Core.Path.{_≡_, refl, sym, _∙_, ap}
 use mathlib.Core.Bool.{Bool, true, false}
 use mathlib.Core.List.{List}
 use Prim.Native.Nat.{ℕ, _<_}
@@ -44,13 +44,13 @@ module _ (net : List ℕ) (s : shape net ≡ true) (p : phase net ≡ LOST) (k :
   net4 = setReceive net3 k flags
 
   prepares : (netWriteNumber net k 6 0x19 ≡ 0) × Written net net1 k prepared
-  prepares = write-stays net net k hardwareReset (rw (← e) (written-same net s p k)) l reset-off 6 0x19 (f .prepares) (f .prepared-off)
+  prepares = write-stays net net k hardwareReset (rw (← e) (written-same net s p k)) l reset-off 6 0x19 (f .prepares) refl (f .prepared-off)
 
   names : (netWriteNumber net1 k 7 i ≡ 0) × Written net net2 k (named i)
-  names = write-stays net net1 k prepared (prepares .1) l (f .prepared-off) 7 i (f .names) (f .named-off)
+  names = write-stays net net1 k prepared (prepares .1) l (f .prepared-off) 7 i (f .names) refl (f .named-off)
 
   sizes : (netWriteNumber net2 k 1 0x0d ≡ 0) × Written net (netAfterWrite net2 k 1 0x0d) k (sized i true)
-  sizes = write-stays net net2 k (named i) (names .1) l (f .named-off) 1 0x0d (f .sizes) (loads i z true false .sized-off)
+  sizes = write-stays net net2 k (named i) (names .1) l (f .named-off) 1 0x0d (f .sizes) refl (loads i z true false .sized-off)
 
   sizes-or : (b : Bool) → Written net (pick b (netAfterWrite net2 k 1 0x0d) net2) k (sized i b)
   sizes-or true = sizes .1
@@ -58,7 +58,7 @@ module _ (net : List ℕ) (s : shape net ≡ true) (p : phase net ≡ LOST) (k :
 
   opens : (netWriteNumber net3 k 1 0x84 ≡ 0) × Written net (netAfterWrite net3 k 1 0x84) k (opened i (has LONG flags) true)
   opens =
-      write-stays net net3 k (sized i (has LONG flags)) (sizes-or (has LONG flags)) l (f .sized-off) 1 0x84 (f .opens)
+      write-stays net net3 k (sized i (has LONG flags)) (sizes-or (has LONG flags)) l (f .sized-off) 1 0x84 (f .opens) refl
       (loads i z (has LONG flags) true .opened-off)
 
   opens-or : (b : Bool) → Written net (pick b (netAfterWrite net3 k 1 0x84) net3) k (opened i (has LONG flags) b)
@@ -67,7 +67,7 @@ module _ (net : List ℕ) (s : shape net ≡ true) (p : phase net ≡ LOST) (k :
 
   joins : (netWriteNumber net4 k 6 0x38 ≡ 0) × Written net (set38 net4 k) k (burst (joined i (has LONG flags) (has RECEIVE flags)))
   joins =
-      write-joins net net4 k (opened i (has LONG flags) (has RECEIVE flags)) (opens-or (has RECEIVE flags)) l (f .opened-off) 6 0x38 (f .joins)
+      write-joins net net4 k (opened i (has LONG flags) (has RECEIVE flags)) (opens-or (has RECEIVE flags)) l (f .opened-off) 6 0x38 (f .joins) refl
       (f .on) (rw (f .id) d)
 
   pub row-unrefused : Unrefused net k i flags

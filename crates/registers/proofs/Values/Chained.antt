@@ -11,12 +11,13 @@ use lib.Dec.{eqb, lit<}
 use lib.ListN.{getD}
 use Rattle.registers.specs.declared.regs.Regs.{Regs}
 use Rattle.bits.specs.Words.{pick, among}
+use Rattle.registers.specs.Fields.{with-fetched}
 use Rattle.registers.specs.Sides.{chaining}
 use Rattle.registers.specs.Fit.{fit}
-use Rattle.registers.specs.Registers.{sub, hardwareReset, afterWrite}
+use Rattle.registers.specs.Registers.{sub, writeFetches, fetched, hardwareReset, afterWrite}
 use Rattle.registers.specs.Layout.{resetBytes, at-second-transmit, at-second-receive, at-sent, at-received, at-fetched, writeBytes, writeChanges}
 use Rattle.bits.proofs.Words.Bools.{cases, or-left, or-right, pick-both}
-use Rattle.registers.proofs.Values.Keeps.{Keeps, row, row-at, keeps-all}
+use Rattle.registers.proofs.Values.Keeps.{Keeps, row, row-at, keeps-then, keeps-fetched, keeps-all}
 use Rattle.registers.proofs.Values.KeepsCalls.{keeps-write}
 use Rattle.registers.proofs.Values.Fits.{fit-rules}
 use Rattle.registers.proofs.Values.Unqueued.{Unqueued, unqueued-fit, unqueued-write}
@@ -81,9 +82,9 @@ plain-writes g k =
     pick-both P (eqb k 0) refl (pick-both P (eqb k 1) refl (pick-both P (eqb k 2) refl (pick-both P (eqb k 3) refl (pick-both P (eqb k 4) refl
     (pick-both P (eqb k 6) refl (pick-both P (eqb k 7) (pick-both P (eqb (sub g) 0) refl (pick-both P (eqb (sub g) 1) refl refl)) refl))))))
 
-pub keeps-changes : (g : Regs) → (chaining g ≡ false → Unqueued g) → (k v : ℕ) → Keeps (writeChanges g k) g (afterWrite g k v)
-keeps-changes g u k v =
-    keeps-chained (chaining g) (λ c. writeBytes c g k) (plain-writes g k) g (afterWrite g k v) (λ c. (u c, unqueued-write g c (u c) k v)) (keeps-write g k v)
+pub keeps-changes : (g : Regs) → (chaining g ≡ false → Unqueued g) → (k v m : ℕ) → Keeps (writeChanges g k) g (fetched (writeFetches k) m (afterWrite g k v))
+keeps-changes g u k v m =
+    keeps-chained (chaining g) (λ c. writeBytes c g k) (plain-writes g k) g _ (λ c. let w = unqueued-write g c (u c) k v in (u c, search w)) (keeps-write g k v m)
 
 -- ---- a hardware reset
 pub keeps-hardware : (g : Regs) → fit g ≡ true → Keeps (resetBytes (chaining g)) g hardwareReset
@@ -91,4 +92,5 @@ unfolding hardwareReset
 keeps-hardware g f =
     let r = fit-rules g f in
     keeps-chained (chaining g) resetBytes refl g hardwareReset (λ c. (unqueued-fit g c f, search))
-    (keeps-all g hardwareReset (rw (eqb-true (g .later .fetched) 0 (r .fetched), eqb-true (g .later .naklow) 0 (r .naklow), eqb-true (g .later .nakhigh) 0 (r .nakhigh))))
+    (keeps-then g (with-fetched 0 g) hardwareReset (keeps-fetched (resetBytes true) refl g 0)
+    (keeps-all (with-fetched 0 g) hardwareReset (rw (eqb-true (g .later .naklow) 0 (r .naklow), eqb-true (g .later .nakhigh) 0 (r .nakhigh)))))

@@ -10,7 +10,7 @@ use Rattle.queues.specs.declared.queues.Side.{Side}
 use Rattle.registers.specs.declared.regs.Regs.{Regs}
 use Rattle.bits.specs.Words.{clear, raise, lower}
 use Rattle.bits.specs.Flags.{RI, TMA, TA, LOW2, only, statusBits, diagnosticBits, maskBits, setupBits, modeBits}
-use Rattle.registers.specs.Fields.{with-id, with-status, with-diagnostic, with-mask, with-setup, with-tentative, with-nid, with-high, with-low, with-mode, with-long}
+use Rattle.registers.specs.Fields.{with-id, with-status, with-diagnostic, with-mask, with-setup, with-tentative, with-nid, with-high, with-low, with-mode, with-long, with-fetched}
 use Rattle.registers.specs.Sides.{chaining, sideOf, withSide}
 use Rattle.bits.proofs.Words.Masks.{lower-other, raise-other}
 use Rattle.queues.proofs.Fits.{Fits, fits-status, fits-long}
@@ -27,6 +27,9 @@ module _ (g : Regs) (f : Fit g) where
 
   pub fit-nid : (v : ℕ) → Fit (with-nid v g)
   fit-nid v = search f
+
+  pub fit-fetched : (v : ℕ) → Fit (with-fetched v g)
+  fit-fetched v = search f
 
   pub fit-diagnostic : (v : ℕ) → only diagnosticBits v ≡ true → Fit (with-diagnostic v g)
   fit-diagnostic v e = search (f, e)

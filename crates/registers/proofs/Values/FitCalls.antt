@@ -16,7 +16,7 @@ use Rattle.registers.specs.Fields.{with-configuration}
 use Rattle.registers.specs.Sides.{chaining, sideOf}
 use Rattle.registers.specs.Fit.{fit}
 use Rattle.commands.specs.Commands.{commandOf, illegal}
-use Rattle.registers.specs.Registers.{sub, risen, stepped, afterRead, hardwareReset, changesChaining, configured, seventhWritten, afterWrite}
+use Rattle.registers.specs.Registers.{sub, risen, stepped, readFetches, writeFetches, fetched, afterRead, hardwareReset, changesChaining, configured, seventhWritten, afterWrite}
 use Rattle.told.specs.Numbers.{REGISTER, VALUE, BUSY, PAGE, refuses}
 use Rattle.registers.specs.Refusals.{noRegister, badValue, busy, chainBusy, writeRefusals, writeNumber}
 use Rattle.bits.proofs.Words.Bools.{or-left, or-right, or-four, pick-of}
@@ -71,10 +71,11 @@ module _ (g : Regs) (f : Fit g) where
           not-false _ (rw (eq-eqb _ _ two) at e)
 
   -- a read, and a write that is not refused
-  pub fit-read : (k : ℕ) → Fit (afterRead g k)
+  pub fit-read : (k m : ℕ) → Fit (fetched (readFetches g k) m (afterRead g k))
   unfolding afterRead
-  fit-read k =
-      pick-of Fit (eqb k 1) (λ _. keeps.fit-diagnostic g f 0 refl) (λ _. pick-of Fit (eqb k 4) (λ _. fit-stepped) (λ _. f))
+  fit-read k m =
+      keeps.fit-fetched (afterRead g k)
+      (pick-of Fit (eqb k 1) (λ _. keeps.fit-diagnostic g f 0 refl) (λ _. pick-of Fit (eqb k 4) (λ _. fit-stepped) (λ _. f))) _
 
   module _ (k v : ℕ) (e : writeNumber g k v ≡ 0) where
     none : (n : ℕ) → refuses (writeRefusals g k v) n ≡ false
@@ -114,16 +115,17 @@ module _ (g : Regs) (f : Fit g) where
     at-seven : k ≡ 7 → Fit (seventhWritten g v)
     at-seven i = fit-seventh v (rw (eq-eqb _ _ i) at known) (rw (eq-eqb _ _ i) at (good .3))
 
-    pub fit-write : Fit (afterWrite g k v)
+    pub fit-write : (m : ℕ) → Fit (fetched (writeFetches k) m (afterWrite g k v))
     unfolding afterWrite writeRefusals
-    fit-write =
-        pick-of Fit (eqb k 0) (λ i. keeps.fit-mask g f v (not-false _ (rw i at (good .0))))
+    fit-write m =
+        keeps.fit-fetched (afterWrite g k v)
+        (pick-of Fit (eqb k 0) (λ i. keeps.fit-mask g f v (not-false _ (rw i at (good .0))))
         (λ n0. pick-of Fit (eqb k 1) (λ i. fit-commanded g f (commandOf v) (small v) (rw i at (idle .0)) (rw i at (none PAGE)))
         (λ n1. pick-of Fit (eqb k 2) (λ i. keeps.fit-mode g f v (not-false _ (rw i at (good .2))))
         (λ n2. pick-of Fit (eqb k 3) (λ i. keeps.fit-pointer g f (g .mode % 4) v (low2 LOW2 refl refl refl refl (g .mode % 4) (omega arith)))
         (λ n3. pick-of Fit (eqb k 4) (λ i. fit-stepped)
         (λ n4. pick-of Fit (eqb k 6) (λ i. fit-configured v (rw i at (idle .1)))
-        (λ n6. pick-of Fit (eqb k 7) (λ i. at-seven (eqb-true _ _ i)) (λ n7. f)))))))
+        (λ n6. pick-of Fit (eqb k 7) (λ i. at-seven (eqb-true _ _ i)) (λ n7. f)))))))) _
 
 pub fit-reset : fit hardwareReset ≡ true
 unfolding hardwareReset

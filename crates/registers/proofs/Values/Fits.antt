@@ -22,7 +22,6 @@ pub record Fit (g : Regs) : Type 0 where
   pub high : only LOW2 (g .high) ≡ true
   pub mode : only modeBits (g .mode) ≡ true
   pub long : only 1 (g .long) ≡ true
-  pub fetched : eqb (g .later .fetched) 0 ≡ true
   pub naklow : eqb (g .later .naklow) 0 ≡ true
   pub nakhigh : eqb (g .later .nakhigh) 0 ≡ true
   pub transmit : sides.Fits Transmit (chaining g) (g .long) (sideOf Transmit g)
@@ -44,9 +43,8 @@ module _ (g : Regs) where
         high = at 4 (lit< tt);
         mode = at 5 (lit< tt);
         long = at 6 (lit< tt);
-        fetched = at 7 (lit< tt);
-        naklow = at 8 (lit< tt);
-        nakhigh = at 9 (lit< tt);
+        naklow = at 7 (lit< tt);
+        nakhigh = at 8 (lit< tt);
         transmit = sides.fit-rules Transmit (chaining g) (g .long) (sideOf Transmit g) (and-right (all (named g)) t both);
         receive = sides.fit-rules Receive (chaining g) (g .long) (sideOf Receive g) (and-right (all (named g) && t) r h);
       }
@@ -54,7 +52,7 @@ module _ (g : Regs) where
   pub rules-fit : Fit g → fit g ≡ true
   unfolding fit
   rules-fit f =
-      rw (f .status, f .diagnostic, f .mask, f .setup, f .high, f .mode, f .long, f .fetched, f .naklow, f .nakhigh, sides.rules-fit Transmit (chaining g) (g .long) (sideOf Transmit g) (f .transmit), sides.rules-fit Receive (chaining g) (g .long) (sideOf Receive g) (f .receive))
+      rw (f .status, f .diagnostic, f .mask, f .setup, f .high, f .mode, f .long, f .naklow, f .nakhigh, sides.rules-fit Transmit (chaining g) (g .long) (sideOf Transmit g) (f .transmit), sides.rules-fit Receive (chaining g) (g .long) (sideOf Receive g) (f .receive))
 
 pub fit-of : (g : Regs) → Fit g → (w : Way) → sides.Fits w (chaining g) (g .long) (sideOf w g)
 fit-of g f Transmit = f .transmit

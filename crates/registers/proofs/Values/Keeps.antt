@@ -3,7 +3,7 @@
 use mathlib.Core.Path.{_≡_, refl, sym, _∙_, ap}
 use mathlib.Core.Bool.{Bool, true, false, _&&_, true≢false}
 use mathlib.Core.List.{List, [], _∷_}
-use Prim.Native.Nat.{ℕ, suc, _+_}
+use Prim.Native.Nat.{ℕ, zero, suc, _+_}
 use native.Mathlib.Omega.{arith}
 use lib.ListN.{getD, set}
 use lib.Seq.{getD-set-other}
@@ -13,6 +13,7 @@ use Rattle.queues.specs.declared.queues.Side.{Side}
 use Rattle.registers.specs.declared.regs.Regs.{Regs}
 use Rattle.bits.specs.Words.{among}
 use Rattle.queues.specs.Queues as queues
+use Rattle.registers.specs.Fields.{with-fetched}
 use Rattle.registers.specs.Sides.{sideOf, withSide}
 use Rattle.registers.specs.Layout.{at-id, at-status, at-diagnostic, at-nid, at-transmit, at-receive, at-second-transmit, at-second-receive, at-sent, at-received, at-fetched, bytesOf, laterOf, transmitBytes, receiveBytes, resetBytes}
 use Rattle.registers.specs.Events.{burst, recovered, heard, answered, risenNid, received, transmitCancelled, cancelled, sent, enquired}
@@ -63,7 +64,15 @@ keeps-puts l g h n u e j = record {
   later = λ k f. ap (λ (b : List ℕ). getD b k 0) j;
 }
 
--- every byte of a reset
+-- the fetched byte
+pub keeps-fetched : (l : List ℕ) → among l at-fetched ≡ true → (g : Regs) (m : ℕ) → Keeps l g (with-fetched m g)
+keeps-fetched l t g m = record { kept = λ k e. refl; later = other }
+  where
+    other : (k : ℕ) → among l (at-fetched + k) ≡ false → getD (laterOf (with-fetched m g)) k 0 ≡ getD (laterOf g) k 0
+    other zero e = absurd (true≢false (sym t ∙ e))
+    other (suc k) e = refl
+
+-- every other byte of a reset
 pub keeps-all : (g h : Regs) → laterOf h ≡ laterOf g → Keeps (resetBytes true) g h
 keeps-all g h e =
     keeps-puts (resetBytes true) g h

@@ -1,34 +1,44 @@
 -- Which register bytes each register access may change: all others are kept.
 -- Assumes nothing.
-use mathlib.Core.Path.{refl}
-use mathlib.Core.Bool.{true}
+use mathlib.Core.Path.{_≡_, refl}
+use mathlib.Core.Bool.{Bool, true, false}
 use mathlib.Core.List.{List, [], _∷_}
 use Prim.Native.Nat.{ℕ}
+use borrow.Author.Tests.{eqb-true}
 use lib.Dec.{eqb}
 use Rattle.bits.specs.declared.way.Way.the-variants.{Transmit, Receive}
 use Rattle.registers.specs.declared.regs.Regs.{Regs}
 use Rattle.commands.specs.declared.commands.Command.{Command}
 use Rattle.commands.specs.declared.commands.Command.the-variants.{Illegal, Disable, Enable, LongPackets, ClearFlags, Clear}
-use Rattle.bits.specs.Words.{pick, clear, has}
+use Rattle.bits.specs.Words.{pick, among, clear, has}
 use Rattle.bits.specs.Flags.{RESET, AUTO-INC}
 use Rattle.commands.specs.Commands.{commandOf}
-use Rattle.registers.specs.Registers.{sub, stepped, afterRead, softwareReset, changesChaining, rechained, configured, commanded, seventhWritten, afterWrite}
-use Rattle.registers.specs.Layout.{at-id, at-status, at-diagnostic, at-mask, at-configuration, at-setup, at-tentative, at-high, at-low, at-mode, at-transmit, at-receive, at-long, at-second-transmit, at-second-receive, at-sent, at-received, queueBytes, readChanges, writeBytes}
-use Rattle.bits.proofs.Words.Bools.{pick-of, pick-both}
-use Rattle.registers.proofs.Values.Keeps.{Keeps, keeps-same, keeps-then, keeps-puts, keeps-side}
+use Rattle.registers.specs.Registers.{sub, stepped, readFetches, writeFetches, fetched, afterRead, softwareReset, changesChaining, rechained, configured, commanded, seventhWritten, afterWrite}
+use Rattle.registers.specs.Layout.{at-id, at-status, at-diagnostic, at-mask, at-configuration, at-setup, at-tentative, at-high, at-low, at-mode, at-transmit, at-receive, at-long, at-second-transmit, at-second-receive, at-sent, at-received, at-fetched, queueBytes, readChanges, writeBytes}
+use Rattle.bits.proofs.Words.Bools.{pick-of, pick-both, and-left}
+use Rattle.registers.proofs.Values.Keeps.{Keeps, keeps-same, keeps-then, keeps-puts, keeps-fetched, keeps-side, within}
 
 module _ (g : Regs) where
   abbrev By : List ℕ → Regs → Type 0
   By l h = Keeps l g h
 
-  keeps-stepped : By (at-high ∷ at-low ∷ []) (stepped g)
+  keeps-stepped : (l : List ℕ) → within (at-high ∷ at-low ∷ []) l ≡ true → By l (stepped g)
   unfolding stepped
-  keeps-stepped =
-      pick-of (By (at-high ∷ at-low ∷ [])) (has AUTO-INC (g .mode)) (λ _. keeps-puts _ g _ ((at-high, _) ∷ (at-low, _) ∷ []) refl refl refl) (λ _. keeps-same _ g)
+  keeps-stepped l u =
+      pick-of (By l) (has AUTO-INC (g .mode)) (λ _. keeps-puts l g _ ((at-high, _) ∷ (at-low, _) ∷ []) u refl refl) (λ _. keeps-same l g)
 
-  pub keeps-read : (k : ℕ) → By (readChanges k) (afterRead g k)
+  -- an access that may fetch, and does so only where the byte is of its list
+  keeps-ahead : (l : List ℕ) (h : Regs) → By l h → (fetches : Bool) → (fetches ≡ true → among l at-fetched ≡ true) → (m : ℕ) → By l (fetched fetches m h)
+  keeps-ahead l h q true u m = keeps-then g h _ q (keeps-fetched l (u refl) h m)
+  keeps-ahead l h q false u m = q
+
+  read-bytes : (k : ℕ) → By (readChanges k) (afterRead g k)
   unfolding afterRead
-  keeps-read k = pick-both By (eqb k 1) (keeps-puts _ g _ ((at-diagnostic, 0) ∷ []) refl refl refl) (pick-both By (eqb k 4) keeps-stepped (keeps-same _ g))
+  read-bytes k = pick-both By (eqb k 1) (keeps-puts _ g _ ((at-diagnostic, 0) ∷ []) refl refl refl) (pick-both By (eqb k 4) (keeps-stepped _ refl) (keeps-same _ g))
+
+  pub keeps-read : (k m : ℕ) → By (readChanges k) (fetched (readFetches g k) m (afterRead g k))
+  keeps-read k =
+      keeps-ahead (readChanges k) (afterRead g k) (read-bytes k) (readFetches g k) (λ t. rw (eqb-true k 4 (and-left (eqb k 4) (has AUTO-INC (g .mode)) t)))
 
   keeps-commanded : (c : Command) → By (at-status ∷ at-long ∷ queueBytes true) (commanded g c)
   unfolding commanded
@@ -59,16 +69,19 @@ module _ (g : Regs) where
       (λ _. keeps-puts reset g _ ((at-status, _) ∷ (at-diagnostic, 0) ∷ (at-mask, 0) ∷ (at-long, 0) ∷ emptied) refl refl refl))
       (keeps-puts reset h _ ((at-configuration, v) ∷ []) refl refl refl)
 
-  pub keeps-write : (k v : ℕ) → By (writeBytes true g k) (afterWrite g k v)
+  write-bytes : (k v : ℕ) → By (writeBytes true g k) (afterWrite g k v)
   unfolding afterWrite seventhWritten
-  keeps-write k v =
+  write-bytes k v =
       pick-both By (eqb k 0) (keeps-puts _ g _ ((at-mask, v) ∷ []) refl refl refl)
       (pick-both By (eqb k 1) (keeps-commanded (commandOf v))
       (pick-both By (eqb k 2) (keeps-puts _ g _ ((at-mode, v) ∷ []) refl refl refl)
       (pick-both By (eqb k 3) (keeps-puts _ g _ ((at-high, _) ∷ (at-low, v) ∷ []) refl refl refl)
-      (pick-both By (eqb k 4) keeps-stepped
+      (pick-both By (eqb k 4) (keeps-stepped _ refl)
       (pick-both By (eqb k 6) (keeps-configured v)
       (pick-both By (eqb k 7)
       (pick-both By (eqb (sub g) 0) (keeps-puts _ g _ ((at-tentative, v) ∷ []) refl refl refl)
       (pick-both By (eqb (sub g) 1) (keeps-puts _ g _ ((at-id, v) ∷ []) refl refl refl) (keeps-puts _ g _ ((at-setup, v) ∷ []) refl refl refl)))
       (keeps-same _ g)))))))
+
+  pub keeps-write : (k v m : ℕ) → By (writeBytes true g k) (fetched (writeFetches k) m (afterWrite g k v))
+  keeps-write k v = keeps-ahead (writeBytes true g k) (afterWrite g k v) (write-bytes k v) (writeFetches k) (λ t. rw (eqb-true k 3 t))

@@ -11,7 +11,7 @@ use Rattle.commands.specs.declared.commands.Command.{Command}
 use Rattle.commands.specs.declared.commands.Command.the-variants.{Illegal, Disable, Enable, LongPackets, ClearFlags, Clear}
 use Rattle.bits.specs.Words.{pick, clear, has}
 use Rattle.bits.specs.Flags.{AUTO-INC, RESET}
-use Rattle.registers.specs.Fields.{with-configuration}
+use Rattle.registers.specs.Fields.{with-configuration, with-fetched}
 use Rattle.registers.specs.Fit.{awake, onLine}
 use Rattle.commands.specs.Commands.{commandOf}
 use Rattle.registers.specs.Registers.{sub, stepped, afterRead, hardwareReset, changesChaining, configured, commanded, writesId, seventhWritten, afterWrite}
@@ -77,6 +77,9 @@ module _ (g : Regs) where
   pub same-read : (k : ℕ) → SameCard g (afterRead g k)
   unfolding afterRead
   same-read k = pick-of (SameCard g) (eqb k 1) (λ _. search) (λ _. pick-of (SameCard g) (eqb k 4) (λ _. kept-stepped) (λ _. same-card g))
+
+  pub same-fetched : (v : ℕ) → SameCard g (with-fetched v g)
+  same-fetched v = search
 
   -- a write of any register but 6 and 7
   pub same-write : (k v : ℕ) → eqb k 6 ≡ false → eqb k 7 ≡ false → SameCard g (afterWrite g k v)

@@ -8,7 +8,6 @@ use native.Mathlib.Omega.{arith}
 use lib.Dec.{eqb}
 use lib.ListN.{length}
 use borrow.Author.Tests.{eqb-true}
-use Rattle.registers.specs.declared.regs.Regs.{Regs}
 use Rattle.card.specs.Row.{regsOf}
 use Rattle.registers.specs.Fit.{onLine}
 use Rattle.registers.specs.Registers.{hardwareReset}
@@ -20,7 +19,7 @@ use Rattle.card.proofs.Rows.Bytes.{size-put, regs-put}
 use Rattle.registers.proofs.Values.SameCard.{on-line-same, same-burst}
 use Rattle.card.proofs.Rows.WellFormed.{size-read, size-write}
 use Rattle.registers.proofs.Values.SameCard.{write-nid}
-use Rattle.card.proofs.Rows.Touched.{same-row, ram-read}
+use Rattle.card.proofs.Rows.Touched.{same-row, same-written, ram-read}
 use Rattle.table.specs.Rows.{rowStart, rowAt, setRow}
 use Rattle.table.specs.Network.{rows, LOST, turned, onRegs, regsAt, onLineAt, shape, SameNodes}
 use Rattle.table.specs.Calls.{placeNumber, netReadNumber, netAfterRead, isHolder, settled, netWriteNumber, netAfterWrite, netAfterReset}
@@ -34,7 +33,7 @@ use Rattle.table.proofs.Shaped.Kept.{became-put}
 use Rattle.table.proofs.Shaped.Became.{still-same}
 use Rattle.table.proofs.Shaped.Alike.{Rams}
 use Rattle.table.proofs.Access.Placed.{read-placed, write-placed, row-there}
-use Rattle.table.proofs.Shaped.KeptRows.{kept-read, reset-off, regs-write}
+use Rattle.table.proofs.Shaped.KeptRows.{kept-read, reset-off}
 use Rattle.table.proofs.Access.ShapeCalls.{shape-write, shape-reset}
 use Rattle.table.proofs.Access.RamsKept.{rams-write, rams-reset}
 use Rattle.table.proofs.Online.SameNodes.{SameNid, calm-still, calm-rows}
@@ -89,7 +88,7 @@ module _ (net : List ℕ) (s : shape net ≡ true) (b : Rams net) (k : ℕ) wher
       pick-of (λ (x : List ℕ). shape x ≡ true → Rams x → SameNodes net x → Calm net x) (eqb (netWriteNumber net k g v) 0)
       (λ z. let l = row-there net k (write-placed net k g v (eqb-true _ _ z)) .1 in
       calm-settled l (rowAfterWrite r g v) (size-write r g v)
-      (λ _. ap (λ (x : Regs). x .nid) (regs-write r (shape-row-whole net s k l) g v) ∙ write-nid (regsOf r) g v))
+      (λ _. same-written r (shape-row-whole net s k l) g v .nid ∙ write-nid (regsOf r) g v))
       (λ _ _ _ _. calm-same net s b)
       (shape-write net s k g v) (rams-write net s b k g v h)
 

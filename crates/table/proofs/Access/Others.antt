@@ -24,6 +24,7 @@ use Rattle.card.proofs.Rows.Sizes.{SameSize, size-whole, whole-registers}
 use Rattle.card.proofs.Rows.Bytes.{size-put, regs-put}
 use Rattle.card.proofs.Rows.WellFormed.{size-read, size-write}
 use Rattle.card.proofs.Rows.Moves.{only-stays, only-then, only-wider, only-put, only-read, only-write, only-reset}
+use Rattle.card.proofs.Rows.Touched.{on-line-written}
 use Rattle.table.specs.Rows.{headerBytes, rowStart, rowAt, setRow}
 use Rattle.table.specs.Network.{rows, LOST, turned, onRegs, regsAt, onLineAt, shape, OnlyRow}
 use Rattle.table.specs.Calls.{placeNumber, netReadNumber, netAfterRead, isHolder, settled, netWriteNumber, netWriteMoves, netAfterWrite, resetMoves, netAfterReset, timerNumber, netAfterTimer}
@@ -31,7 +32,6 @@ use Rattle.table.proofs.Rows.Starts.{frame-within, frame-byte}
 use Rattle.table.proofs.Rows.WithRows.{rowAt-setRow, setRow-frame}
 use Rattle.table.proofs.Rows.Networks.{rowAt-turned}
 use Rattle.table.proofs.Shaped.Shapes.{shape-room, shape-row, shape-row-whole}
-use Rattle.table.proofs.Shaped.KeptRows.{regs-write}
 use Rattle.table.proofs.Access.Placed.{read-placed, write-placed, timer-placed, row-there}
 use Rattle.table.proofs.Access.Refused.{write-refused, reset-refused, timer-refused}
 use Rattle.table.proofs.Access.Beside.{Beside, read-beside, write-beside, reset-beside, timer-beside}
@@ -94,7 +94,7 @@ module _ (net : List ℕ) (s : shape net ≡ true) (k : ℕ) (l : k < rows net) 
       pick-of (λ (x : List ℕ). OnlyAt (netWriteMoves net k g v) row (rowAt x k)) (eqb (netWriteNumber net k g v) 0)
       (λ _. only-settled (rowAfterWrite row g v) (size-write row g v) (netWriteMoves net k g v)
       (only-wider row _ (λ i m. or-left (writeMoves row g i) _ m) (only-write row whole (shape-row net s k l) g v))
-      (λ f t i m. rw (f, sym (ap onLine (regs-write row whole g v)) ∙ t) at (or-right (writeMoves row g i) _ m)))
+      (λ f t i m. rw (f, sym (on-line-written row whole g v) ∙ t) at (or-right (writeMoves row g i) _ m)))
       (λ _. only-stays _ row)
 
   reset-row : OnlyAt (resetMoves net k) row (rowAt (netAfterReset net k) k)

@@ -20,7 +20,7 @@ use Rattle.card.proofs.Rows.Sizes.{SameSize, whole-registers}
 use Rattle.card.proofs.Rows.Bytes.{size-put, regs-put}
 use Rattle.card.proofs.Rows.WellFormed.{size-read, size-write}
 use Rattle.card.proofs.Rows.Rams.{ram-put}
-use Rattle.card.proofs.Rows.Touched.{same-row, ram-read, ram-write}
+use Rattle.card.proofs.Rows.Touched.{same-row, same-written, ram-read, ram-write}
 use Rattle.card.proofs.Pages.Packets.{Ram}
 use Rattle.table.specs.Rows.{rowStart, rowAt, setRow}
 use Rattle.table.specs.Network.{rows, LOST, turned, onRegs, regsAt, onLineAt, shape}
@@ -30,7 +30,6 @@ use Rattle.table.proofs.Rows.WithRows.{row-whole, rowAt-setRow, rowAt-s
 use Rattle.table.proofs.Rows.Networks.{rowAt-turned, rows-turned}
 use Rattle.table.proofs.Shaped.Shapes.{shape-room, shape-row-whole}
 use Rattle.table.proofs.Shaped.Alike.{Rams}
-use Rattle.table.proofs.Shaped.KeptRows.{regs-write}
 use Rattle.table.proofs.Access.Placed.{row-there, read-placed, write-placed, timer-placed}
 
 rams-turned : (net : List ℕ) (p h : ℕ) → Rams net → Rams (turned net p h)
@@ -87,7 +86,7 @@ module _ (net : List ℕ) (s : shape net ≡ true) (b : Rams net) (k : ℕ) wher
       (λ z. let p = write-placed net k g v (eqb-true _ _ z) in
       let m = b k (there p) in
       settles p (rowAfterWrite r g v) (size-write r g v)
-      (ram-write r (m .0) g v h, rw (regs-write r (shape-row-whole net s k (there p)) g v) (write-id-byte (regsOf r) g v (m .1) h)))
+      (ram-write r (m .0) g v h, rw (same-written r (shape-row-whole net s k (there p)) g v .id) (write-id-byte (regsOf r) g v (m .1) h)))
       (λ _. b)
 
   pub rams-reset : Rams (netAfterReset net k)

@@ -1,6 +1,6 @@
 -- Every call to a row keeps SHAPE, and a fresh network has it.
 -- Assumes nothing.
-use mathlib.Core.Path.{_≡_, refl, sym}
+use mathlib.Core.Path.{_≡_, refl, sym, _∙_}
 use mathlib.Core.Bool.{true, false}
 use mathlib.Core.List.{List, [], _∷_}
 use Prim.Native.Nat.{ℕ, _≤_, _<_}
@@ -18,6 +18,7 @@ use Rattle.card.proofs.Rows.Bytes.{size-put}
 use Rattle.card.proofs.Rows.WellFormed.{size-read, size-write, well-reset, well-write, well-fresh}
 use Rattle.card.proofs.Rows.WellFormed.{fresh-off}
 use Rattle.card.proofs.Words.Zeros.{zeros-replicate}
+use Rattle.card.proofs.Rows.Touched.{same-written, on-line-written}
 use Rattle.table.specs.Rows.{rowAt}
 use Rattle.table.specs.Network.{rowLimit, rows, regsAt, onLineAt, isNode, nodeOf, shape}
 use Rattle.table.specs.Calls.{placeRefusals, placeNumber, netReadNumber, netAfterRead, duplicate, rowWriteRefusals, netWriteNumber, netAfterWrite, netAfterReset, timerNumber, netAfterTimer, freshNet, freshNumber, netAfterFresh}
@@ -28,7 +29,7 @@ use Rattle.table.proofs.Shaped.Shapes.{shape-row, shape-row-whole, shap
 use Rattle.table.proofs.Shaped.Kept.{shape-put}
 use Rattle.table.proofs.Access.Placed.{read-placed, write-placed, timer-placed, row-there}
 use Rattle.table.proofs.Access.Fresh.{length-freshNet, rowAt-fresh, fresh-net, fresh-some, fresh-fits}
-use Rattle.table.proofs.Shaped.KeptRows.{kept-read, reset-off, regs-write}
+use Rattle.table.proofs.Shaped.KeptRows.{kept-read, reset-off}
 use Rattle.table.proofs.Access.ShapeSettled.{shape-burst, shape-settled}
 
 module _ (net : List ℕ) (s : shape net ≡ true) (k : ℕ) where
@@ -85,7 +86,8 @@ module _ (net : List ℕ) (s : shape net ≡ true) (k : ℕ) where
         let l = row-there net k (write-placed net k g v n) .1 in
         let w = shape-row-whole net s k l in
         shape-settled net s k l (rowAfterWrite (rowAt net k) g v) (size-write (rowAt net k) g v)
-        (well-write (rowAt net k) w (shape-row net s k l) g v (unrefused n .0)) (rw (regs-write (rowAt net k) w g v) (single n)))
+        (well-write (rowAt net k) w (shape-row net s k l) g v (unrefused n .0))
+        (λ o. rw (same-written (rowAt net k) w g v .id) (single n (sym (on-line-written (rowAt net k) w g v) ∙ o))))
         (λ _. s)
 
 -- ---- a fresh network

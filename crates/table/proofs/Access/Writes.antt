@@ -13,7 +13,7 @@ use Rattle.registers.specs.declared.regs.Regs.{Regs}
 use Rattle.told.proofs.Told.Smallest.{refuse-passed}
 use Rattle.card.specs.Row.{regsOf}
 use Rattle.registers.specs.Fit.{onLine}
-use Rattle.registers.specs.Registers.{afterWrite}
+use Rattle.registers.specs.Registers.{writeFetches, afterWrite}
 use Rattle.registers.specs.Refusals.{writeNumber}
 use Rattle.card.specs.Access.{rowAfterWrite}
 use Rattle.registers.specs.Events.{burst}
@@ -21,6 +21,7 @@ use Rattle.bits.proofs.Words.Bools.{cases, and-false}
 use Rattle.card.proofs.Rows.Sizes.{SameSize, whole-registers}
 use Rattle.card.proofs.Rows.Bytes.{regs-put, size-put}
 use Rattle.card.proofs.Rows.WellFormed.{size-write}
+use Rattle.card.proofs.Rows.Touched.{regs-unfetched}
 use Rattle.told.specs.Numbers.{DUPLICATE}
 use Rattle.table.specs.Rows.{rowStart, rowAt, setRow}
 use Rattle.table.specs.Network.{rows, phase, LOST, onRegs, regsAt, onLineAt, isNode, nodeOf, shape}
@@ -32,7 +33,6 @@ use Rattle.table.proofs.Rows.Networks.{rowAt-turned}
 use Rattle.table.proofs.Online.Nodes.{other, node-same}
 use Rattle.table.proofs.Shaped.Shapes.{shape-room, shape-row-whole}
 use Rattle.table.proofs.Access.Settled.{write-asked}
-use Rattle.table.proofs.Shaped.KeptRows.{regs-write}
 use Rattle.table.proofs.Access.ShapeCalls.{shape-write}
 use Rattle.table.proofs.Access.Beside.{beside-count, write-beside}
 
@@ -56,9 +56,9 @@ nodeOf-none net i x n e = seek-not (other net i x) n each
         ⊎-elim (λ (t : eqb j x ≡ true). rw t (and-false (isNode net i j)))
         (λ (t : eqb j x ≡ false). rw (e j l (eqb-false j x t))) (cases (eqb j x))
 
--- `net` is what writes to row k of `old` have left, with the registers g
+-- `net` is what writes to row k of `old` have left, with the registers g; the next does not fetch
 module _ (old net : List ℕ) (k : ℕ) (g : Regs) (w : Written old net k g) (l : k < rows old) (off : onLine g ≡ false) (r v : ℕ)
-    (z : writeNumber g r v ≡ 0) where
+    (z : writeNumber g r v ≡ 0) (u : writeFetches r ≡ false) where
   abbrev new : List ℕ
   new = netAfterWrite net k r v
 
@@ -102,7 +102,7 @@ module _ (old net : List ℕ) (k : ℕ) (g : Regs) (w : Written old net k g) (l 
     here : regsAt put k ≡ h
     here =
         ap regsOf (rowAt-setRow net (rows net) inside k low (rowAfterWrite (rowAt net k) r v) size)
-        ∙ regs-write (rowAt net k) (shape-row-whole net (w .shaped) k low) r v
+        ∙ regs-unfetched (rowAt net k) (shape-row-whole net (w .shaped) k low) r v u
         ∙ ap (λ (x : Regs). afterWrite x r v) (w .regs)
 
     stays : onLine h ≡ false → regsAt new k ≡ h

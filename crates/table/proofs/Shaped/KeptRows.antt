@@ -1,22 +1,20 @@
--- What the calls leave of a well formed row: a read and a burst keep it, and a write gives it the registers that it says.
+-- What the calls leave of a well formed row: a read and a burst keep it, and a reset leaves it off line.
 -- Assumes nothing.
-use mathlib.Core.Path.{_≡_, refl, sym, _∙_, ap}
+use mathlib.Core.Path.{_≡_, _∙_, ap}
 use mathlib.Core.Bool.{true, false}
 use mathlib.Core.List.{List}
 use Prim.Native.Nat.{ℕ}
-use native.Mathlib.Omega.{arith}
 use Rattle.registers.specs.declared.regs.Regs.{Regs}
 use Rattle.card.specs.Row.{Whole, regsOf, putRegs, wellFormed}
 use Rattle.registers.specs.Fit.{onLine}
-use Rattle.registers.specs.Registers.{pointer, afterWrite, hardwareReset}
-use Rattle.card.specs.Access.{pointed, rowAfterRead, ramWritten, rowAfterWrite, rowAfterReset}
+use Rattle.registers.specs.Registers.{hardwareReset}
+use Rattle.card.specs.Access.{rowAfterRead, rowAfterReset}
 use Rattle.registers.specs.Events.{burst}
 use Rattle.card.proofs.Rows.Sizes.{whole-registers}
 use Rattle.card.proofs.Rows.Bytes.{regs-put, well-fit}
 use Rattle.registers.proofs.Values.Fits.{fit-rules}
 use Rattle.registers.proofs.Values.FitEvents.{fit-burst}
 use Rattle.registers.proofs.Values.SameCard as card
-use Rattle.card.proofs.Rows.Accesses.{write-done, length-ram}
 use Rattle.card.proofs.Rows.WellFormed.{well-regs, well-read}
 use Rattle.card.proofs.Rows.Touched.{same-row}
 use Rattle.table.specs.Network.{onRegs}
@@ -43,9 +41,3 @@ module _ (r : List ℕ) (l : Whole r) where
 
   pub reset-off : onLine (regsOf (rowAfterReset r)) ≡ false
   reset-off = ap onLine (regs-put r hardwareReset (whole-registers r l)) ∙ card.reset-off
-
-  pub regs-write : (k v : ℕ) → regsOf (rowAfterWrite r k v) ≡ afterWrite (regsOf r) k v
-  regs-write k v =
-      let m = ramWritten r k (pointed r) v in
-      ap regsOf (sym (write-done r k (regsOf r) refl (pointer (regsOf r)) refl v m refl (afterWrite (regsOf r) k v) refl _ refl))
-      ∙ regs-put m (afterWrite (regsOf r) k v) (omega (arith, whole-registers r l, length-ram r k (pointed r) v))

@@ -8,7 +8,7 @@ returns : tie.Need-returns
 unfolding fit
 returns c =
     let t = c .before .before in
-    let k = t .before .before .before .before .before .before .before .before .before .before .before .before in
+    let k = t .before .before .before .before .before .before .before .before .before .before .before in
     simp (c .fit2 .ensures, c .before .side2 .ensures, t .fit .ensures, t .before .side .ensures, k .chaining .ensures)
 
 pub fit-spec : {M : Type 1} → statement M
