@@ -6,4 +6,5 @@ pub mod WellFormed
 pub mod Touched
 pub mod Accesses
 pub mod Moves
+pub mod Ahead
 pub mod Bystanders

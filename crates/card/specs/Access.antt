@@ -1,5 +1,6 @@
 -- Document 01, "Registers": what a register access that is not refused does to a row's bytes.
 -- Assumes nothing.
+use mathlib.Core.Path.{_≡_}
 use mathlib.Core.Bool.{Bool}
 use mathlib.Core.List.{List, _++_}
 use Prim.Native.Nat.{ℕ, _+_, _-_}
@@ -8,6 +9,7 @@ use lib.ListN.{getD, set, replicate}
 use Rattle.bits.specs.Words.{pick}
 use Rattle.card.specs.Row.{registerBytes, rowBytes, mark, regsOf, putRegs}
 use Rattle.registers.specs.declared.regs.Regs.{Regs}
+use Rattle.registers.specs.Layout.{at-fetched}
 use Rattle.registers.specs.Registers.{pointer, readFetches, writeFetches, fetched, readValue, afterRead, afterWrite, hardwareReset}
 
 -- where the RAM byte of register 4 stands in the row
@@ -20,6 +22,10 @@ ramAt r g = getD r (registerBytes + pointer g) 0
 
 abbrev pub accessed : List ℕ → Bool → Regs → List ℕ
 accessed r fetches g = putRegs r (fetched fetches (ramAt r g) g)
+
+-- the fetched byte of a row is the RAM byte at its pointer
+abbrev pub Current : List ℕ → Type 0
+Current r = getD r at-fetched 0 ≡ ramAt r (regsOf r)
 
 -- what a read gives, and the row after it
 unfoldable pub valueRead : List ℕ → ℕ → ℕ

@@ -3,3 +3,4 @@ pub mod Lap
 pub mod Host
 pub mod Demand
 pub mod Shuffle
+pub mod Ahead

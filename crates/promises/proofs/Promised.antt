@@ -1,5 +1,5 @@
--- Refused calls change nothing, no other byte moves, a fault that meets nothing does nothing, the sizes of packets, no answer depends on where a row stands, and no
--- second outcome fits a contract.
+-- Refused calls change nothing, no other byte moves, a fault that meets nothing does nothing, the sizes of packets, no answer depends on where a row stands, register 4
+-- reads ahead, and no second outcome fits a contract.
 -- Assumes nothing.
 use Rattle.registers.proofs.Values.Fits.{rules-fit}
 use Rattle.registers.proofs.Values.Plains.{plain}
@@ -17,9 +17,11 @@ use Rattle.line.proofs.Promised.TheHolder.{holder-left}
 use Rattle.line.proofs.Promised.Faults.{idle-fault}
 use Rattle.card.proofs.CardSums.{data-sizes}
 use Rattle.desk.specs.Shuffle.{ShuffledWhole}
+use Rattle.desk.specs.Ahead.{ReadsAhead}
 use Rattle.desk.proofs.Loads.Loaded.{load-refused}
 use Rattle.desk.proofs.Lapping.LapLeaves.{walk-refused, lap-refused}
 use Rattle.desk.proofs.Theorems.Shuffling as desk
+use Rattle.desk.proofs.Theorems.Ahead as ahead
 use Rattle.promises.specs.Promises.{RefusalsChangeNothing, NoOtherByte, OutcomesSay, PlainRows, IdleFaults, Sizes, OneOutcome}
 use Rattle.promises.proofs.Records.{load-unnamed}
 use Rattle.promises.proofs.Once.Bits.{bits-once}
@@ -74,6 +76,9 @@ sizes = data-sizes
 
 pub shuffled-whole : ShuffledWhole
 shuffled-whole = desk.shuffled-whole
+
+pub reads-ahead : ReadsAhead
+reads-ahead = ahead.reads-ahead
 
 pub one-outcome : OneOutcome
 one-outcome = record { bits = bits-once; told = told-once; queues = queues-once; commands = commands-once; registers = registers-once; card = card-once; table = table-once; line = line-once; orders = orders-once; desk = desk-once; words = words-once }

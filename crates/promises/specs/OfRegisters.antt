@@ -9,6 +9,9 @@ pub record OfRegisters : Type 0 where
   pub hardware-reset : Once regs.hardware_reset.ended regs.hardware_reset.Reads.Asked regs.hardware_reset.Reads.Learnt
   pub interrupt : Once regs.interrupt.ended regs.interrupt.Reads.Asked regs.interrupt.Reads.Learnt
   pub pointer : Once regs.pointer.ended regs.pointer.Reads.Asked regs.pointer.Reads.Learnt
+  pub read-fetches : Once regs.read_fetches.ended regs.read_fetches.Reads.Asked regs.read_fetches.Reads.Learnt
+  pub write-fetches : Once regs.write_fetches.ended regs.write_fetches.Reads.Asked regs.write_fetches.Reads.Learnt
+  pub fetched : Once regs.fetched.ended regs.fetched.Reads.Asked regs.fetched.Reads.Learnt
   pub read-value : Once regs.read_value.ended regs.read_value.Reads.Asked regs.read_value.Reads.Learnt
   pub after-read : Once regs.after_read.ended regs.after_read.Reads.Asked regs.after_read.Reads.Learnt
   pub after-write : Once regs.after_write.ended regs.after_write.Reads.Asked regs.after_write.Reads.Learnt

@@ -117,7 +117,7 @@ LoadingGives = (order net : List ℕ) → loadNumber order net ≡ 0 → TheLoad
 -- whole; of its row it may move those bytes alone that are named here. A step leaves the length and, but for phase and holder, the header; of each row it may move
 -- `rowMoves` alone. The page reader, its number and the interrupt can't change what they are lent; fresh and loading write every byte
 pub record NoOtherByte : Type 0 where
-  pub read : (net : List ℕ) (k g : ℕ) → OnlyRow net (netAfterRead net k g) k (among (readChanges g))
+  pub read : (net : List ℕ) (k g : ℕ) → OnlyRow net (netAfterRead net k g) k (among (readChanges (regsAt net k) g))
   pub read-header : (net : List ℕ) (k g i : ℕ) → i < headerBytes → getD (netAfterRead net k g) i 0 ≡ getD net i 0
   pub write : (net : List ℕ) (k g v : ℕ) → OnlyRow net (netAfterWrite net k g v) k (netWriteMoves net k g v)
   pub reset : (net : List ℕ) (k : ℕ) → OnlyRow net (netAfterReset net k) k (resetMoves net k)

@@ -9,6 +9,7 @@ pub mod Keeps
 pub mod KeepsCalls
 pub mod Unqueued
 pub mod Chained
+pub mod Ahead
 pub mod Ends
 pub mod Listens
 pub mod Loads

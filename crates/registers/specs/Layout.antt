@@ -7,7 +7,7 @@ use lib.Dec.{eqb, leb}
 use Rattle.registers.specs.declared.regs.Regs.{Regs}
 use Rattle.bits.specs.Words.{pick}
 use Rattle.registers.specs.Sides.{chaining}
-use Rattle.registers.specs.Registers.{sub}
+use Rattle.registers.specs.Registers.{sub, readFetches}
 
 -- "Register bytes of a row: .. 2 node ID; 3 status; 4 diagnostic status; 5 interrupt mask; 6 configuration; 7 setup; 8 tentative ID; 9 NID; 10 pointer high (0-3);
 -- 11 pointer low; 12 mode ..; 13 transmit ..; 14 receive ..; 15 long packets 0 or 1"
@@ -105,9 +105,9 @@ abbrev pub resetBytes : Bool → List ℕ
 resetBytes chaining =
     at-id ∷ at-tentative ∷ at-nid ∷ at-mask ∷ at-setup ∷ at-high ∷ at-low ∷ at-mode ∷ at-diagnostic ∷ at-configuration ∷ at-status ∷ at-long ∷ at-fetched ∷ queueBytes chaining
 
--- those that a read may change: "1 gives diagnostic status and then zeroes it"; of 4, the pointer and the fetched byte
-abbrev pub readChanges : ℕ → List ℕ
-readChanges k = pick (eqb k 1) (at-diagnostic ∷ []) (pick (eqb k 4) (at-high ∷ at-low ∷ at-fetched ∷ []) [])
+-- those that a read may change, of a card with the registers g: "1 gives diagnostic status and then zeroes it"; of 4 with AUTO-INC, the pointer and the fetched byte
+abbrev pub readChanges : Regs → ℕ → List ℕ
+readChanges g k = pick (eqb k 1) (at-diagnostic ∷ []) (pick (readFetches g k) (at-high ∷ at-low ∷ at-fetched ∷ []) [])
 
 -- those that a write may change, of a card with the registers g: the mask; what a command does; mode; of 3, the pointer and the fetched byte;
 -- of 4, the pointer; what a software reset does, and the configuration; "7 by sub-address"

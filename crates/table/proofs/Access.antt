@@ -9,5 +9,6 @@ pub mod Beside
 pub mod Writes
 pub mod Calm
 pub mod Others
+pub mod Ahead
 pub mod Refused
 pub mod Rising

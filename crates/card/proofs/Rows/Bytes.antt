@@ -43,7 +43,7 @@ pub regs-same : (r s : List ℕ) → ((i : ℕ) → i < registerBytes → getD s
 unfolding regsOf
 regs-same r s e = rw (e 2 (lit< tt), e 3 (lit< tt), e 4 (lit< tt), e 5 (lit< tt), e 6 (lit< tt), e 7 (lit< tt), e 8 (lit< tt), e 9 (lit< tt), e 10 (lit< tt), e 11 (lit< tt), e 12 (lit< tt), e 13 (lit< tt), e 14 (lit< tt), e 15 (lit< tt), e 16 (lit< tt), e 17 (lit< tt), e 18 (lit< tt), e 19 (lit< tt), e 32 (lit< tt), e 33 (lit< tt), e 34 (lit< tt))
 
-not-leb : (i b : ℕ) → b < i → leb i b ≡ false
+pub not-leb : (i b : ℕ) → b < i → leb i b ≡ false
 not-leb i b l = ⊎-elim (λ (t : leb i b ≡ true). absurd (omega (arith, leb-true i b t))) (λ (t : leb i b ≡ false). t) (cases (leb i b))
 
 -- ---- the laws of `putRegs`

@@ -102,9 +102,9 @@ module _ (r : List ℕ) (a : ℕ) (k : Packet) (f : a + pageBytes (k .shape) ≤
 
 -- ---- the register accesses
 module _ (r : List ℕ) (l : Whole r) where
-  pub only-read : (k : ℕ) → OnlyAt (among (readChanges k)) r (rowAfterRead r k)
+  pub only-read : (k : ℕ) → OnlyAt (among (readChanges (regsOf r) k)) r (rowAfterRead r k)
   unfolding rowAfterRead
-  only-read k = only-put (readChanges k) r _ (whole-registers r l) (keeps-read (regsOf r) k _)
+  only-read k = only-put (readChanges (regsOf r) k) r _ (whole-registers r l) (keeps-read (regsOf r) k _)
 
   -- a write of register 4 writes the RAM byte too
   pub only-write : wellFormed r ≡ true → (k v : ℕ) → OnlyAt (writeMoves r k) r (rowAfterWrite r k v)

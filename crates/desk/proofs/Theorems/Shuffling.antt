@@ -24,7 +24,7 @@ use Rattle.desk.proofs.Lapping.Shuffled.{good-step, good-lap, lapped-sh
 good-row : {n k : ℕ} {net new : List ℕ} {moves : ℕ → Bool} → Good n net → OnlyRow net new k moves → shape new ≡ true → Rams new → Good n new
 good-row g o s b = record { fits = s; rams = b; count = only-rows o ∙ g .count }
 
-good-called : {n : ℕ} (net : List ℕ) → Good n net → (c : Call) → Good n (called c net)
+pub good-called : {n : ℕ} (net : List ℕ) → Good n net → (c : Call) → Good n (called c net)
 good-called net g (At k (Read r)) = good-row g (read-only net k r) (shape-read net (g .fits) k r) (rams-read net (g .fits) (g .rams) k r)
 good-called net g (At k (Write r v b)) = good-row g (write-only net k r v) (shape-write net (g .fits) k r v) (rams-write net (g .fits) (g .rams) k r v b)
 good-called net g (At k Reset) = good-row g (reset-only net k) (shape-reset net (g .fits) k) (rams-reset net (g .fits) (g .rams) k)

@@ -1,7 +1,7 @@
 -- Which register bytes each register access may change: all others are kept.
 -- Assumes nothing.
 use mathlib.Core.Path.{_≡_, refl}
-use mathlib.Core.Bool.{Bool, true, false}
+use mathlib.Core.Bool.{Bool, true, false, _&&_}
 use mathlib.Core.List.{List, [], _∷_}
 use Prim.Native.Nat.{ℕ}
 use borrow.Author.Tests.{eqb-true}
@@ -15,30 +15,38 @@ use Rattle.bits.specs.Flags.{RESET, AUTO-INC}
 use Rattle.commands.specs.Commands.{commandOf}
 use Rattle.registers.specs.Registers.{sub, stepped, readFetches, writeFetches, fetched, afterRead, softwareReset, changesChaining, rechained, configured, commanded, seventhWritten, afterWrite}
 use Rattle.registers.specs.Layout.{at-id, at-status, at-diagnostic, at-mask, at-configuration, at-setup, at-tentative, at-high, at-low, at-mode, at-transmit, at-receive, at-long, at-second-transmit, at-second-receive, at-sent, at-received, at-fetched, queueBytes, readChanges, writeBytes}
-use Rattle.bits.proofs.Words.Bools.{pick-of, pick-both, and-left}
-use Rattle.registers.proofs.Values.Keeps.{Keeps, keeps-same, keeps-then, keeps-puts, keeps-fetched, keeps-side, within}
+use Rattle.bits.proofs.Words.Bools.{pick-of, pick-both, and-left, and-right}
+use Rattle.registers.proofs.Values.Keeps.{Keeps, keeps-same, keeps-then, keeps-puts, keeps-fetched, keeps-side}
 
 module _ (g : Regs) where
   abbrev By : List ℕ → Regs → Type 0
   By l h = Keeps l g h
 
-  keeps-stepped : (l : List ℕ) → within (at-high ∷ at-low ∷ []) l ≡ true → By l (stepped g)
+  keeps-stepped : By (at-high ∷ at-low ∷ []) (stepped g)
   unfolding stepped
-  keeps-stepped l u =
-      pick-of (By l) (has AUTO-INC (g .mode)) (λ _. keeps-puts l g _ ((at-high, _) ∷ (at-low, _) ∷ []) u refl refl) (λ _. keeps-same l g)
+  keeps-stepped =
+      pick-of (By (at-high ∷ at-low ∷ [])) (has AUTO-INC (g .mode)) (λ _. keeps-puts _ g _ ((at-high, _) ∷ (at-low, _) ∷ []) refl refl refl) (λ _. keeps-same _ g)
 
   -- an access that may fetch, and does so only where the byte is of its list
   keeps-ahead : (l : List ℕ) (h : Regs) → By l h → (fetches : Bool) → (fetches ≡ true → among l at-fetched ≡ true) → (m : ℕ) → By l (fetched fetches m h)
   keeps-ahead l h q true u m = keeps-then g h _ q (keeps-fetched l (u refl) h m)
   keeps-ahead l h q false u m = q
 
-  read-bytes : (k : ℕ) → By (readChanges k) (afterRead g k)
-  unfolding afterRead
-  read-bytes k = pick-both By (eqb k 1) (keeps-puts _ g _ ((at-diagnostic, 0) ∷ []) refl refl refl) (pick-both By (eqb k 4) (keeps-stepped _ refl) (keeps-same _ g))
+  -- a read of register 4 moves the pointer where it fetches, and nothing else
+  read-bytes : (k : ℕ) → By (readChanges g k) (afterRead g k)
+  unfolding afterRead stepped
+  read-bytes k = pick-both By (eqb k 1) (keeps-puts _ g _ ((at-diagnostic, 0) ∷ []) refl refl refl) (fourth (eqb k 4) (has AUTO-INC (g .mode)) (keeps-puts _ g _ ((at-high, _) ∷ (at-low, _) ∷ []) refl refl refl))
+    where
+      fourth : (four auto : Bool) {l : List ℕ} {h : Regs} → By l h → By (pick (four && auto) l []) (pick four (pick auto h g) g)
+      fourth true true q = q
+      fourth true false q = keeps-same _ g
+      fourth false auto q = keeps-same _ g
 
-  pub keeps-read : (k m : ℕ) → By (readChanges k) (fetched (readFetches g k) m (afterRead g k))
+  pub keeps-read : (k m : ℕ) → By (readChanges g k) (fetched (readFetches g k) m (afterRead g k))
   keeps-read k =
-      keeps-ahead (readChanges k) (afterRead g k) (read-bytes k) (readFetches g k) (λ t. rw (eqb-true k 4 (and-left (eqb k 4) (has AUTO-INC (g .mode)) t)))
+      let four = eqb k 4 in
+      let auto = has AUTO-INC (g .mode) in
+      keeps-ahead (readChanges g k) (afterRead g k) (read-bytes k) (readFetches g k) (λ t. rw (eqb-true k 4 (and-left four auto t), and-right four auto t))
 
   keeps-commanded : (c : Command) → By (at-status ∷ at-long ∷ queueBytes true) (commanded g c)
   unfolding commanded
@@ -76,7 +84,7 @@ module _ (g : Regs) where
       (pick-both By (eqb k 1) (keeps-commanded (commandOf v))
       (pick-both By (eqb k 2) (keeps-puts _ g _ ((at-mode, v) ∷ []) refl refl refl)
       (pick-both By (eqb k 3) (keeps-puts _ g _ ((at-high, _) ∷ (at-low, v) ∷ []) refl refl refl)
-      (pick-both By (eqb k 4) (keeps-stepped _ refl)
+      (pick-both By (eqb k 4) keeps-stepped
       (pick-both By (eqb k 6) (keeps-configured v)
       (pick-both By (eqb k 7)
       (pick-both By (eqb (sub g) 0) (keeps-puts _ g _ ((at-tentative, v) ∷ []) refl refl refl)

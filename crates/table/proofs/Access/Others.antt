@@ -82,10 +82,10 @@ module _ (net : List ℕ) (s : shape net ≡ true) (k : ℕ) (l : k < rows net) 
         (λ _. pick-of P (onLine (regsAt net k) && isHolder new k) (λ _. rw (rowAt-turned new LOST 0 k, is) o) (λ _. rw is o))
 
   -- ---- the calls
-  read-row : (g : ℕ) → OnlyAt (among (readChanges g)) row (rowAt (netAfterRead net k g) k)
+  read-row : (g : ℕ) → OnlyAt (among (readChanges (regsAt net k) g)) row (rowAt (netAfterRead net k g) k)
   unfolding netAfterRead
   read-row g =
-      pick-of (λ (x : List ℕ). OnlyAt (among (readChanges g)) row (rowAt x k)) (eqb (netReadNumber net k g) 0)
+      pick-of (λ (x : List ℕ). OnlyAt (among (readChanges (regsAt net k) g)) row (rowAt x k)) (eqb (netReadNumber net k g) 0)
       (λ _. rw (there (rowAfterRead row g) (size-read row g)) (only-read row whole g)) (λ _. only-stays _ row)
 
   write-row : (g v : ℕ) → OnlyAt (netWriteMoves net k g v) row (rowAt (netAfterWrite net k g v) k)
@@ -134,7 +134,7 @@ module _ (net : List ℕ) (k : ℕ) where
       (λ (s : shape net ≡ false). none (λ t. false≢true (sym s ∙ t .0))) (cases (shape net))
 
   -- ---- the calls
-  pub read-only : (g : ℕ) → OnlyRow net (netAfterRead net k g) k (among (readChanges g))
+  pub read-only : (g : ℕ) → OnlyRow net (netAfterRead net k g) k (among (readChanges (regsAt net k) g))
   unfolding netAfterRead
   read-only g =
       only-of _ (λ n. rw (ne-eqb (netReadNumber net k g) 0 (λ z. n (row-there net k (read-placed net k g z))))) (λ s l. (read-beside net s k l g, read-row net s k l g))

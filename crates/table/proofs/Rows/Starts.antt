@@ -6,7 +6,7 @@ use mathlib.Core.Logic.{⊎-elim}
 use Prim.Native.Nat.{ℕ, zero, suc, _+_, _-_, _≤_, _<_}
 use native.Mathlib.Nat.{le-of-suc-le-suc, eq-or-lt-of-le}
 use native.Mathlib.Omega.{arith}
-use lib.ListN.{length, getD, set, take, drop}
+use lib.ListN.{length, getD, set, take, drop, take-append-drop}
 use lib.Seq.{length-take-le, drop-drop, drop-set-lt, take-set-lt, set-append-left, getD-take}
 use Rattle.card.specs.Row.{rowSize}
 use Rattle.table.specs.Rows.{headerBytes, rowStart, rowAt, setRow}
@@ -72,6 +72,11 @@ module _ (net new : List ℕ) (e : drop headerBytes new ≡ drop headerBytes net
 
 pub rowAt-header : (net : List ℕ) (i v : ℕ) → i < headerBytes → (k : ℕ) → rowAt (set net i v) k ≡ rowAt net k
 rowAt-header net i v l = rowAt-body net (set net i v) (drop-set-lt headerBytes net i v l)
+
+-- row k as it is
+pub setRow-same : (net : List ℕ) (k : ℕ) → setRow net k (rowAt net k) ≡ net
+unfolding setRow rowAt
+setRow-same net k = rw (take-append-drop (rowSize (drop (rowStart net k) net)) (drop (rowStart net k) net)) (take-append-drop (rowStart net k) net)
 
 pub header-setRow : (net : List ℕ) (k : ℕ) (r : List ℕ) (i v : ℕ) → i < headerBytes → rowStart net k ≤ length net → set (setRow net k r) i v ≡ setRow (set net i v) k r
 unfolding setRow
