@@ -12,7 +12,7 @@ use Rattle.registers.specs.declared.regs.Regs.{Regs}
 use Rattle.registers.specs.Layout.{at-fetched}
 use Rattle.registers.specs.Registers.{pointer, readFetches, writeFetches, fetched, readValue, afterRead, afterWrite, hardwareReset}
 
--- where the RAM byte of register 4 stands in the row
+-- where the RAM byte at the pointer stands in the row
 abbrev pub pointed : List ℕ → ℕ
 pointed r = registerBytes + pointer (regsOf r)
 

@@ -33,13 +33,14 @@ risen g = (pointer g + 1) % ramBytes
 unfoldable pub stepped : Regs → Regs
 stepped g = pick (has AUTO-INC (g .mode)) (with-high (risen g / 256) (with-low (risen g % 256) g)) g
 
--- C-13: "the card fetches the byte when the low pointer is loaded, and again after an incremented read"; only these fetch. The byte m is fetched, or none is
+-- C-13: "Only a pointer load or an incremented read fetches": a write of 3, whatever RDDATA is; a read of 4 with AUTO-INC
 abbrev pub writeFetches : ℕ → Bool
 writeFetches k = eqb k 3
 
 abbrev pub readFetches : Regs → ℕ → Bool
 readFetches g k = eqb k 4 && has AUTO-INC (g .mode)
 
+-- "the card fetches the byte": m, where it fetches
 abbrev pub fetched : Bool → ℕ → Regs → Regs
 fetched fetches m g = with-fetched (pick fetches m (g .later .fetched)) g
 

@@ -23,7 +23,7 @@ use commands::commands::decode;
 use queues::queues::Queue;
 
 impl Regs {
-    // The RAM address that register 4 reads or writes.
+    // The RAM address that register 4 writes, and that is fetched.
     pub fn pointer(self) -> usize
         ensures { λ r. ⌜ r ≡ pointer self ⌝ }
     {
@@ -44,7 +44,7 @@ impl Regs {
         g
     }
 
-    // C-13: "Only a pointer load or an incremented read fetches".
+    // C-13: "Only a pointer load or an incremented read fetches", a write of 3 or a read of 4 with AUTO-INC.
     pub fn read_fetches(self, register: usize) -> bool
         ensures { λ r. ⌜ r ≡ readFetches self register ⌝ }
     {
@@ -57,7 +57,7 @@ impl Regs {
         register == 3
     }
 
-    // The registers of an access that fetches `ram`, the RAM byte at their pointer, or does not.
+    // Where an access fetches, the fetched byte is `ram`, the RAM byte at the pointer that it leaves.
     pub fn fetched(self, fetches: bool, ram: u8) -> Regs
         ensures { λ r. ⌜ r ≡ fetched fetches ram self ⌝ }
     {

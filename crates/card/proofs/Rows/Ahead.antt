@@ -38,7 +38,7 @@ module _ (r : List ℕ) where
     unfolding rowAfterRead
     read-ahead k t = rw t (fetches-ahead (afterRead (regsOf r) k))
 
-    -- an access that moves nothing leaves the row
+    -- a read without AUTO-INC leaves the row
     pub read-again : readFetches (regsOf r) 4 ≡ false → rowAfterRead r 4 ≡ r
     read-again n = let o = only-read r l 4 in ext-getD 0 (rowAfterRead r 4) r (o .size) (λ i _. o .same i (rw n))
 

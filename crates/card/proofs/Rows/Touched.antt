@@ -19,7 +19,7 @@ use Rattle.card.proofs.Rows.Rams.{ram-put, ram-set}
 use Rattle.registers.proofs.Values.SameCard.{SameCard, same-then, on-line-same, same-read, same-fetched}
 
 module _ (r : List ℕ) (l : Whole r) (k : ℕ) where
-  pub regs-read : regsOf (rowAfterRead r k) ≡ fetched (readFetches (regsOf r) k) (ramAt r (afterRead (regsOf r) k)) (afterRead (regsOf r) k)
+  regs-read : regsOf (rowAfterRead r k) ≡ fetched (readFetches (regsOf r) k) (ramAt r (afterRead (regsOf r) k)) (afterRead (regsOf r) k)
   unfolding rowAfterRead
   regs-read = regs-put r _ (whole-registers r l)
 
@@ -27,7 +27,7 @@ module _ (r : List ℕ) (l : Whole r) (k : ℕ) where
   same-row = rw regs-read (same-then (regsOf r) (afterRead (regsOf r) k) _ (same-read (regsOf r) k) (same-fetched (afterRead (regsOf r) k) _))
 
   module _ (v : ℕ) where
-    pub regs-write : regsOf (rowAfterWrite r k v) ≡ fetched (writeFetches k) (ramAt (ramWritten r k (pointed r) v) (afterWrite (regsOf r) k v)) (afterWrite (regsOf r) k v)
+    regs-write : regsOf (rowAfterWrite r k v) ≡ fetched (writeFetches k) (ramAt (ramWritten r k (pointed r) v) (afterWrite (regsOf r) k v)) (afterWrite (regsOf r) k v)
     unfolding rowAfterWrite
     regs-write = regs-put (ramWritten r k (pointed r) v) _ (omega (arith, whole-registers r l, size-ram r k (pointer (regsOf r)) v .long))
 
