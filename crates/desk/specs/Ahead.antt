@@ -9,7 +9,6 @@ use lib.ListN.{getD}
 use Rattle.bits.specs.Words.{has}
 use Rattle.bits.specs.Flags.{AUTO-INC}
 use Rattle.registers.specs.Layout.{at-fetched}
-use Rattle.registers.specs.Registers.{readFetches, writeFetches}
 use Rattle.card.specs.Access.{ramAt, Current}
 use Rattle.table.specs.Rows.{rowAt}
 use Rattle.table.specs.Network.{Bytes, rows, regsAt, shape}
@@ -25,8 +24,8 @@ pointedAt net k = ramAt (rowAt net k) (regsAt net k)
 
 -- the calls that set it: "Only a pointer load or an incremented read fetches", and "Hardware reset sets it to 0"
 abbrev pub sets : ℕ → Call → List ℕ → Bool
-sets k (At j (Read g)) net = eqb j k && readFetches (regsAt net k) g
-sets k (At j (Write g v _)) net = eqb j k && writeFetches g
+sets k (At j (Read g)) net = eqb j k && (eqb g 4 && has AUTO-INC (regsAt net k .mode))
+sets k (At j (Write g v _)) net = eqb j k && eqb g 3
 sets k (At j Reset) net = eqb j k
 sets k (At j Timer) net = false
 sets k (At j Interrupt) net = false
