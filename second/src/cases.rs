@@ -1,5 +1,5 @@
 //! The fixed cases of document 01, "Sums to prove and sums to run", two of its "differ" for every pair
-//! of rows and of records (C-14), two of request C-12, one of C-11, and the sweeps.
+//! of rows and of records (C-14), two of request C-12, one of C-11, three of C-13, and the sweeps.
 
 use crate::model::{Network, MOST_ROWS};
 use crate::order::{ORDER_MARK, RECORD};
@@ -16,7 +16,7 @@ enum Case {
     Sweep(fn(&mut dyn Peer) -> Result<(), String>),
 }
 
-const CASES: [(&str, Case); 12] = [
+const CASES: [(&str, Case); 15] = [
     ("one row refuses ALONE", Case::Lines(one_row)),
     ("60 rows load, 61 refuse", Case::Lines(sixty_and_one)),
     (
@@ -46,6 +46,18 @@ const CASES: [(&str, Case); 12] = [
     (
         "two packets queued go one a token",
         Case::Lines(two_packets_queued),
+    ),
+    (
+        "register 4 gives the byte that was fetched",
+        Case::Lines(bytes_fetched),
+    ),
+    (
+        "a packet leaves the fetched byte as it is",
+        Case::Lines(packet_over_a_fetched_byte),
+    ),
+    (
+        "of bytes 20 to 63 of a row only 32 may hold anything",
+        Case::Lines(byte_32_alone),
     ),
     (
         "the values that each register takes",
@@ -307,6 +319,97 @@ fn two_packets_queued() -> Script {
         ("write 0 1 0", "DONE"),
         ("read 0 0", "DONE 116"), // 74 hex: TMA and TTA are 0
     ]));
+    lines
+}
+
+/// The readings C13-05, 01 and 02: before any load 0 is fetched; a load fetches, whatever RDDATA is; a
+/// write does not, also one after which the pointer moves on; a read without AUTO-INC does not.
+fn bytes_fetched() -> Script {
+    let mut lines = loaded(&[40, 7, 200], "DONE");
+    lines.extend(script(&[
+        ("poke 80 11", "DONE"),    // RAM 0 of row 0
+        ("poke 85 7766", "DONE"),  // RAM 5 and 6
+        ("write 0 2 128", "DONE"), // 80 hex: RDDATA
+        ("read 0 4", "DONE 0"),
+        ("write 0 2 0", "DONE"),
+        ("write 0 3 5", "DONE"),
+        ("read 0 4", "REFUSED 6 DIRECTION"),
+        ("write 0 2 128", "DONE"),
+        ("read 0 4", "DONE 119"), // 77 hex
+        ("write 0 2 0", "DONE"),
+        ("write 0 4 153", "DONE"), // 99 hex
+        ("write 0 2 128", "DONE"),
+        ("read 0 4", "DONE 119"),
+        ("read 0 4", "DONE 119"),
+        ("peek 85 2", "DONE 9966"),
+        ("write 0 2 64", "DONE"), // 40 hex: AUTO-INC
+        ("write 0 3 5", "DONE"),
+        ("write 0 4 136", "DONE"), // 88 hex
+        ("write 0 2 131", "DONE"), // 83 hex: RDDATA, and staged A9-A8
+        ("read 0 4", "DONE 153"),
+        ("read 0 3", "DONE 6"),
+        ("peek 85 2", "DONE 8866"),
+        ("poke 48 5A", "DONE"), // byte 32 of row 0
+        ("check", "DONE"),
+        ("read 0 4", "DONE 90"), // 5A hex
+    ]));
+    lines
+}
+
+/// The reading C13-04: an incremented read fetches the next byte, 0 behind 1,023, and a packet stored
+/// over it then does not change what is read. After that a software reset keeps the byte, and a
+/// hardware reset does not.
+fn packet_over_a_fetched_byte() -> Script {
+    let mut lines = loaded(&[40, 7, 200], "DONE");
+    lines.extend(script(&[
+        ("poke 80 11334455", "DONE"), // RAM 0 to 3 of row 0
+        ("poke 1103 22", "DONE"),     // RAM 3FF
+        ("write 0 2 195", "DONE"),    // C3 hex: RDDATA, AUTO-INC, and staged A9-A8
+        ("write 0 3 255", "DONE"),
+        ("read 0 4", "DONE 34"),      // 22 hex
+        ("peek 48 1", "DONE 11"),     // byte 32 of row 0
+        ("poke 1168 5528FF", "DONE"), // a packet from row 1, ID 7, to ID 28 hex
+        ("poke 1423 AA", "DONE"),
+        ("write 1 1 3", "DONE"),
+        ("lap 3", "DONE 259 7 1 64 40 0 34 200 2 161"),
+        ("data 0 0", "DONE AA"),
+        ("peek 80 3", "DONE 0728FF"),
+        ("read 0 4", "DONE 17"), // 11 hex
+        ("read 0 4", "DONE 40"), // 28 hex, which was fetched behind the packet
+        ("peek 48 1", "DONE FF"),
+        ("write 0 6 184", "DONE"), // B8 hex: RESET
+        ("read 0 4", "DONE 255"),
+        ("write 0 6 56", "DONE"),
+        ("peek 48 1", "DONE 55"), // RAM 3, in the gap
+        ("reset 0", "DONE"),
+        ("peek 48 1", "DONE 00"),
+        ("write 0 2 128", "DONE"),
+        ("read 0 4", "DONE 0"),
+        ("peek 80 4", "DONE 0728FF55"),
+    ]));
+    lines
+}
+
+/// Every byte of a row behind those of C-11, its first bit or its last set, without chaining and with it.
+fn byte_32_alone() -> Script {
+    let mut lines = loaded(&[5, 6], "DONE");
+    let row = Network::length_for(1);
+    for configuration in ["38", "78"] {
+        lines.extend(script(&[
+            (&format!("poke {} {configuration}", row + 6), "DONE"),
+            ("check", "DONE"),
+        ]));
+        for byte in 20..64 {
+            let answer = match byte {
+                32 => "DONE",
+                _ => "REFUSED 1 SHAPE",
+            };
+            for (value, answer) in [("01", answer), ("80", answer), ("00", "DONE")] {
+                let poke = format!("poke {} {value}", row + byte);
+                lines.extend(script(&[(&poke, "DONE"), ("check", answer)]));
+            }
+        }
+    }
     lines
 }
 

@@ -6,7 +6,7 @@ use std::collections::VecDeque;
 use crate::model::Network;
 use crate::peer::Peer;
 use crate::prompt::{Lent, Prompt};
-use crate::sights::{orders, View, Watch};
+use crate::sights::{fetched, orders, View, Watch};
 use crate::tally::Tally;
 
 /// Calls sent at a time. While the peer works on them the next ones are made.
@@ -18,9 +18,10 @@ const SHOWN: usize = 20;
 /// Characters shown of one line.
 const WIDTH: usize = 2_100;
 
-/// A call, and what the peer answered.
+/// A call, what it met here, and what the peer answered.
 pub struct Heard {
     pub line: String,
+    pub sights: Vec<String>,
     pub answer: String,
 }
 
@@ -29,6 +30,8 @@ struct Exchange {
     line: Vec<u8>,
     answer: String,
     sum: String,
+    /// Only while the peer's answers are kept.
+    sights: Vec<String>,
 }
 
 pub struct Comparison<'a> {
@@ -43,6 +46,7 @@ pub struct Comparison<'a> {
     judges: bool,
     heard: Option<Vec<Heard>>,
     watch: Watch,
+    fetched: fetched::Watch,
     tally: Tally,
 }
 
@@ -68,6 +72,7 @@ impl<'a> Comparison<'a> {
             judges: false,
             heard: None,
             watch: Watch::default(),
+            fetched: fetched::Watch::default(),
             tally: Tally::default(),
         }
     }
@@ -91,15 +96,9 @@ impl<'a> Comparison<'a> {
 
     /// Makes a call here and queues it for the peer.
     pub fn call(&mut self, line: &[u8]) -> Result<(), String> {
-        let before = self.network().map(View::of);
-        let answer = self.own.answer(line);
-        let after = self.network().map(View::of);
+        let (answer, sights) = self.call_here(line);
         let sum = self.own.answer(b"sum");
-        let text = String::from_utf8_lossy(line);
-        let words: Vec<&str> = text.split(' ').collect();
-        let mut sights = self.watch.sights(&words, before.as_ref(), after.as_ref());
-        sights.extend(orders::sights(&words, self.own.lent().length()));
-        self.tally.record(&words, &answer, sights);
+        let listening = self.heard.is_some();
         self.unsent.extend_from_slice(line);
         self.unsent.extend_from_slice(b"\nsum\n");
         self.unsent_calls += 1;
@@ -108,12 +107,28 @@ impl<'a> Comparison<'a> {
             line: line.to_vec(),
             answer,
             sum,
+            sights: if listening { sights } else { Vec::new() },
         });
         if self.unsent_calls == BATCH {
             self.send()?;
             self.compare_down_to(BATCH)?;
         }
         Ok(())
+    }
+
+    /// The answer to a call here, and what it met.
+    fn call_here(&mut self, line: &[u8]) -> (String, Vec<String>) {
+        let before = self.network().map(View::of);
+        let answer = self.own.answer(line);
+        let after = self.network().map(View::of);
+        let text = String::from_utf8_lossy(line);
+        let words: Vec<&str> = text.split(' ').collect();
+        let (before, after) = (before.as_ref(), after.as_ref());
+        let mut sights = self.watch.sights(&words, before, after);
+        sights.extend(self.fetched.sights(&words, &answer, before, after));
+        sights.extend(orders::sights(&words, self.own.lent().length()));
+        self.tally.record(&words, &answer, &sights);
+        (answer, sights)
     }
 
     /// Keeps what the peer answers from now on.
@@ -130,8 +145,8 @@ impl<'a> Comparison<'a> {
     }
 
     /// Notes a call that was answered alike with rows in another order.
-    pub fn shuffled(&mut self, line: &str, answer: &str) {
-        self.tally.record_shuffled(line, answer);
+    pub fn shuffled(&mut self, heard: &Heard) {
+        self.tally.record_shuffled(heard);
     }
 
     /// Compares all that still waits, and sees that nothing more comes.
@@ -186,6 +201,7 @@ impl<'a> Comparison<'a> {
         if let Some(heard) = &mut self.heard {
             heard.push(Heard {
                 line: String::from_utf8_lossy(&exchange.line).into_owned(),
+                sights: exchange.sights.clone(),
                 answer: answer.clone(),
             });
         }

@@ -1,7 +1,7 @@
 //! Random material for the scenes of a campaign: orders, register bytes, values and lines.
 
 use crate::model::{Configuration, Diagnostic, Mask, Mode, Row, MOST_ROWS, RAM, REGISTERS};
-use crate::order::{ORDER_MARK, RECORD};
+use crate::order::{ALL_FLAGS, ORDER_MARK, RECORD};
 use crate::queue::{Enabled, Queue, Side, MOST_UNCLEARED};
 use crate::rng::Rng;
 use crate::tally::COMMANDS;
@@ -51,6 +51,15 @@ pub fn order(rng: &mut Rng, records: usize) -> Vec<u8> {
         order.extend([id, rng.below(4) as u8]);
         order.extend(name(rng));
     }
+    order
+}
+
+/// A good order with all flags set: every receiver on, and for long packets.
+pub fn order_of_receivers(rng: &mut Rng, records: usize) -> Vec<u8> {
+    let mut order = order(rng, records);
+    order
+        .chunks_mut(RECORD)
+        .for_each(|record| record[3] = ALL_FLAGS);
     order
 }
 
@@ -154,15 +163,20 @@ pub fn registers(rng: &mut Rng, node_id: u8) -> [u8; REGISTERS] {
         tentative_id: nearby_id(rng),
         nid: nearby_id(rng),
         pointer: rng.below(RAM) as u16,
-        mode: Mode {
-            rddata: rng.flag(),
-            auto_inc: rng.flag(),
-            staged: rng.below(4) as u8,
-        },
+        mode: mode(rng),
+        fetched: rng.byte(),
         long_packets,
         ram: [0; RAM],
     };
     row.registers()
+}
+
+fn mode(rng: &mut Rng) -> Mode {
+    Mode {
+        rddata: rng.flag(),
+        auto_inc: rng.flag(),
+        staged: rng.below(4) as u8,
+    }
 }
 
 fn enabled(rng: &mut Rng, receive: bool, long_packets: bool) -> Enabled {

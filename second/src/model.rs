@@ -1,5 +1,5 @@
 //! Document 01, "The saved network": the header and the rows as structs, and the bytes they are
-//! saved as, with those that request C-11 adds for rows with chaining.
+//! saved as, with those that request C-11 adds for rows with chaining and the one that C-13 adds.
 //!
 //! Reading takes each named bit into its field. Bytes that the fields do not give back as they were
 //! are not well formed, nor are those whose fields do not fit each other.
@@ -15,6 +15,9 @@ pub const MOST_ROWS: usize = 60;
 
 /// The bytes of a row that are only for chaining; those past byte 19 are zero there too.
 pub const CHAINING: std::ops::Range<usize> = 16..32;
+
+/// The byte of a row that may hold anything: what register 4 gives.
+pub const FETCHED: usize = 32;
 
 const NETWORK_MARK: [u8; 2] = [0x41, 0x4E];
 const ROW_MARK: [u8; 2] = [0x4E, 0x44];
@@ -221,6 +224,8 @@ pub struct Row {
     pub nid: u8,
     pub pointer: u16,
     pub mode: Mode,
+    /// What a read of register 4 gives, whatever lies at the pointer by then.
+    pub fetched: u8,
     pub long_packets: bool,
     pub ram: [u8; RAM],
 }
@@ -244,6 +249,7 @@ impl Row {
             nid: 0,
             pointer: 0,
             mode: Mode::default(),
+            fetched: 0,
             long_packets: false,
             ram,
         }
@@ -318,6 +324,7 @@ impl Row {
         ];
         let mut registers = [0; REGISTERS];
         registers[..named.len()].copy_from_slice(&named);
+        registers[FETCHED] = self.fetched;
         registers
     }
 
@@ -330,22 +337,11 @@ impl Row {
         holds.then_some(row)
     }
 
-    /// The register bytes by their numbers in document 01. Where TA or RI is 1, a second that waits
-    /// moves up, and the bytes do not come back as they were.
+    /// The register bytes by their numbers in document 01 and in the requests. Where TA or RI is 1, a
+    /// second that waits moves up, and the bytes do not come back as they were.
     fn from_named_bits(registers: &[u8; REGISTERS], ram: [u8; RAM]) -> Row {
         let status = registers[3];
-        let [transmit, receive] = [registers[13], registers[14]];
-        let [second_transmit, second_receive] = [registers[16], registers[17]];
-        let transmits = Queue::of(
-            (!bit(status, 0)).then(|| Enabled::transmit_from_named_bits(transmit)),
-            bit(second_transmit, SECOND_TRANSMIT)
-                .then(|| Enabled::transmit_from_named_bits(second_transmit)),
-        );
-        let receives = Queue::of(
-            (!bit(status, 7)).then(|| Enabled::receive_from_named_bits(receive)),
-            bit(second_receive, SECOND_RECEIVE)
-                .then(|| Enabled::receive_from_named_bits(second_receive)),
-        );
+        let [transmits, receives] = Row::queues(registers);
         Row {
             node_id: registers[2],
             por: bit(status, 4),
@@ -368,9 +364,28 @@ impl Row {
             nid: registers[9],
             pointer: u16::from_be_bytes([registers[10] & 3, registers[11]]),
             mode: Mode::from_named_bits(registers[12]),
+            fetched: registers[FETCHED],
             long_packets: registers[15] == 1,
             ram,
         }
+    }
+
+    /// What waits to be sent, and what to be received.
+    fn queues(registers: &[u8; REGISTERS]) -> [Queue; 2] {
+        let status = registers[3];
+        let [transmit, receive] = [registers[13], registers[14]];
+        let [second_transmit, second_receive] = [registers[16], registers[17]];
+        let transmits = Queue::of(
+            (!bit(status, 0)).then(|| Enabled::transmit_from_named_bits(transmit)),
+            bit(second_transmit, SECOND_TRANSMIT)
+                .then(|| Enabled::transmit_from_named_bits(second_transmit)),
+        );
+        let receives = Queue::of(
+            (!bit(status, 7)).then(|| Enabled::receive_from_named_bits(receive)),
+            bit(second_receive, SECOND_RECEIVE)
+                .then(|| Enabled::receive_from_named_bits(second_receive)),
+        );
+        [transmits, receives]
     }
 
     /// "with long packets 1, an enabled page (TA = 0, RI = 0) is even": each by itself.

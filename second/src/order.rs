@@ -11,7 +11,7 @@ pub const ORDER_MARK: [u8; 2] = [0x4F, 0x52];
 /// The flags by their bits; no other bit is set.
 const RECEIVE_ON: u8 = 0;
 const LONG: u8 = 1;
-const ALL_FLAGS: u8 = 1 << RECEIVE_ON | 1 << LONG;
+pub const ALL_FLAGS: u8 = 1 << RECEIVE_ON | 1 << LONG;
 
 /// A bad record, from 1, and the first thing that is wrong with it.
 #[derive(Clone, Copy, Debug, PartialEq, Eq)]

@@ -1,4 +1,5 @@
-//! Document 01, "Registers", with request C-11: the calls on one card, and what they do to the line.
+//! Document 01, "Registers", with requests C-11 and C-13: the calls on one card, and what they do to
+//! the line.
 
 use crate::model::{bit, Configuration, Diagnostic, Mask, Mode, Network, Phase, Row, RAM};
 use crate::queue::Side;
@@ -97,7 +98,7 @@ impl Row {
                 Ok(pointer_low)
             }
             Register::Data if !self.mode.rddata => Err(Refusal::Direction),
-            Register::Data => Ok(*self.data_byte()),
+            Register::Data => Ok(self.read_data()),
             Register::Configuration => Ok(self.configuration.byte()),
             Register::TentativeId => Ok(self.tentative_id),
             Register::NodeId => Ok(self.node_id),
@@ -105,13 +106,32 @@ impl Row {
         }
     }
 
-    /// The RAM byte at the pointer, which then moves on where AUTO-INC is set.
-    fn data_byte(&mut self) -> &mut u8 {
-        let at = usize::from(self.pointer);
+    /// The byte that was fetched; with AUTO-INC the next one is fetched then.
+    fn read_data(&mut self) -> u8 {
+        let data = self.fetched;
         if self.mode.auto_inc {
-            self.pointer = (self.pointer + 1) % RAM as u16;
+            self.fetch_at(self.next_pointer());
         }
-        &mut self.ram[at]
+        data
+    }
+
+    /// A write fetches nothing, also where the pointer moves on after it: "Only a pointer load or an
+    /// incremented read fetches".
+    fn write_data(&mut self, value: u8) {
+        self.ram[usize::from(self.pointer)] = value;
+        if self.mode.auto_inc {
+            self.pointer = self.next_pointer();
+        }
+    }
+
+    fn next_pointer(&self) -> u16 {
+        (self.pointer + 1) % RAM as u16
+    }
+
+    /// Leads the pointer to an address and fetches the byte there, whatever RDDATA is.
+    fn fetch_at(&mut self, pointer: u16) {
+        self.pointer = pointer;
+        self.fetched = self.ram[usize::from(pointer)];
     }
 
     /// A write as far as the row alone decides it. The tests of each register stand in the order
@@ -125,10 +145,10 @@ impl Row {
             }
             Register::PointerHigh => self.mode = Mode::from_byte(value).ok_or(Refusal::Value)?,
             Register::PointerLow => {
-                self.pointer = u16::from_be_bytes([self.mode.staged, value]);
+                self.fetch_at(u16::from_be_bytes([self.mode.staged, value]));
             }
             Register::Data if self.mode.rddata => return Err(Refusal::Direction),
-            Register::Data => *self.data_byte() = value,
+            Register::Data => self.write_data(value),
             Register::Configuration => {
                 self.configure(Configuration::from_byte(value))?;
             }

@@ -1,12 +1,16 @@
 //! The scenes a campaign is made of. Each looks at the network as it stands and makes some calls;
 //! which scene comes, and what it does, the seed decides.
 
+mod fetched;
 mod queues;
 mod shuffled;
 
 use crate::comparison::Comparison;
 use crate::material::{self, WIDE};
-use crate::model::{Network, Phase, Row, CHAINING, HEADER, MOST_ROWS, PAGE, RAM, REGISTERS, ROW};
+use crate::model::{
+    Network, Phase, Row, CHAINING, FETCHED, HEADER, MOST_ROWS, PAGE, RAM, REGISTERS, ROW,
+};
+use crate::order::RECORD;
 use crate::prompt::{hex_text, CAPACITY, MOST_ROOM};
 use crate::rng::Rng;
 use crate::tally::COMMANDS;
@@ -42,7 +46,7 @@ impl<'a> Player<'a> {
     }
 
     fn scene(&mut self) -> Played {
-        let weights = [3, 4, 4, 3, 3, 16, 8, 4, 7, 7, 6, 4, 9, 5, 3, 24, 4];
+        let weights = [3, 4, 5, 3, 3, 14, 9, 4, 7, 8, 6, 4, 10, 5, 3, 31, 10, 3];
         match self.rng.weighted(&weights) {
             0 => self.new_network(),
             1 => self.fresh_of_any_size(),
@@ -60,6 +64,7 @@ impl<'a> Player<'a> {
             13 => self.lines_not_understood(),
             14 => self.looks_at_bytes(),
             15 => self.queues(),
+            16 => self.reads_ahead(),
             _ => self.in_another_order(),
         }
     }
@@ -119,7 +124,7 @@ impl<'a> Player<'a> {
     }
 
     /// A row of which this holds, where there is one.
-    fn some_row_that(&mut self, holds: fn(&Row) -> bool) -> Option<usize> {
+    fn some_row_that(&mut self, holds: impl Fn(&Row) -> bool) -> Option<usize> {
         let first = self.some_row();
         let network = self.both.network()?;
         let rows = network.rows.len();
@@ -267,8 +272,13 @@ impl<'a> Player<'a> {
 
     fn loaded_network(&mut self, rows: usize) -> Played {
         let order = material::order(&mut self.rng, rows);
-        self.call(&format!("size {}", Network::length_for(rows)))?;
-        self.call(&format!("load {}", hex_text(&order)))
+        self.network_of(&order)
+    }
+
+    fn network_of(&mut self, order: &[u8]) -> Played {
+        let length = Network::length_for(order.len() / RECORD);
+        self.call(&format!("size {length}"))?;
+        self.call(&format!("load {}", hex_text(order)))
     }
 
     fn fresh_network(&mut self, rows: usize) -> Played {
@@ -317,7 +327,7 @@ impl<'a> Player<'a> {
                 id = material::nearby_id(&mut self.rng);
             }
             let registers = material::registers(&mut self.rng, id);
-            self.poke(Network::length_for(row), &registers[..CHAINING.end])?;
+            self.poke(Network::length_for(row), &registers[..=FETCHED])?;
         }
         if let Some(holder) = self.some_row_on_line() {
             let phase = self.rng.below(3) as u8;

@@ -1,9 +1,10 @@
 //! What a call meets that its words do not say: what waits in a row, what is not cleared, which
 //! byte was changed before. The tally counts each of these sights with the answer that came.
 
+pub mod fetched;
 pub mod orders;
 
-use crate::model::{Configuration, Mask, Network, Phase, Row, CHAINING, HEADER, REGISTERS, ROW};
+use crate::model::{Configuration, Mask, Network, Phase, Row, HEADER, REGISTERS, ROW};
 use crate::queue::{Enabled, Queue, Side};
 use crate::registers::Command;
 
@@ -46,8 +47,12 @@ pub fn can_come() -> Vec<(String, &'static [&'static str])> {
         (byte_changed("17"), DONE_OR_SHAPE),
         (byte_changed("18"), DONE_OR_SHAPE),
         (byte_changed("19"), DONE_OR_SHAPE),
-        (byte_changed("20-31"), SHAPE),
-        (byte_changed("32-63"), SHAPE),
+        (byte_changed("20-30"), SHAPE),
+        (byte_changed("31"), SHAPE),
+        (byte_changed("32"), DONE),
+        (byte_changed("33"), SHAPE),
+        (byte_changed("34"), SHAPE),
+        (byte_changed("35-63"), SHAPE),
         (byte_changed("16-19 without CCHEN"), SHAPE),
         (odd_second_page(), SHAPE),
         (masked_in("TTA"), &["DONE 1"]),
@@ -104,6 +109,7 @@ pub fn can_come() -> Vec<(String, &'static [&'static str])> {
     all.push((moves_up(RECEIVE, true), STORED));
     all.push((completion_of_one_asked(), STORED));
     all.extend(orders::can_come());
+    all.extend(fetched::can_come());
     all
 }
 
@@ -219,6 +225,7 @@ struct Glance {
     tma: bool,
     stored_tma: bool,
     long_packets: bool,
+    data: fetched::Data,
 }
 
 impl Glance {
@@ -236,6 +243,7 @@ impl Glance {
             tma: row.tma,
             stored_tma: row.stored_tma,
             long_packets: row.long_packets,
+            data: fetched::Data::of(row),
         }
     }
 
@@ -389,7 +397,8 @@ impl Watch {
     }
 }
 
-/// One byte got another value: the status, or one of those that are zero without chaining.
+/// One byte got another value: the status, one of those that are zero without chaining, or one of those
+/// behind them.
 fn changed_byte(before: &View, at: &str, digits: &str) -> Vec<String> {
     let at = at.parse::<usize>().ok();
     let at = at.and_then(|at| at.checked_sub(HEADER));
@@ -402,8 +411,9 @@ fn changed_byte(before: &View, at: &str, digits: &str) -> Vec<String> {
         3 => byte_changed("3"),
         16..=19 if row.chaining => byte_changed(&byte.to_string()),
         16..=19 => byte_changed("16-19 without CCHEN"),
-        _ if CHAINING.contains(&byte) => byte_changed("20-31"),
-        _ if (CHAINING.end..REGISTERS).contains(&byte) => byte_changed("32-63"),
+        20..=30 => byte_changed("20-30"),
+        31..=34 => byte_changed(&byte.to_string()),
+        35..REGISTERS => byte_changed("35-63"),
         _ => return Vec::new(),
     }];
     // A second that may be, but for its page: bit 6 of byte 16 and bit 5 of byte 17 say that it waits.

@@ -1,5 +1,5 @@
-//! Every value of a byte, where the rules of document 01 and of request C-11 say how many of them
-//! are taken.
+//! Every value of a byte, where the rules of document 01 and of requests C-11 and C-13 say how many of
+//! them are taken.
 //!
 //! The network has one row. Its byte b is at `ROW + b`, and page 0 of its RAM at `RAM`.
 
@@ -136,7 +136,10 @@ pub fn forms(peer: &mut dyn Peer) -> Result<(), String> {
         (19, 1),
         (20, 1),
         (31, 1),
-        (32, 1),
+        (32, 256),
+        (33, 1),
+        (34, 1),
+        (35, 1),
         (63, 1),
         (64, 256),
         (1087, 256),
@@ -154,7 +157,10 @@ pub fn forms(peer: &mut dyn Peer) -> Result<(), String> {
         (19, 3),
         (20, 1),
         (31, 1),
-        (32, 1),
+        (32, 256),
+        (33, 1),
+        (34, 1),
+        (35, 1),
         (63, 1),
     ];
     const ENABLED_CHAINING: &[Fitting] = &[

@@ -2,7 +2,8 @@
 
 use std::collections::BTreeMap;
 
-use crate::sights;
+use crate::comparison::Heard;
+use crate::sights::{self, fetched};
 
 /// The words of the prompt that are compared, each with the answers it can give.
 const ANSWERS: [(&str, &[&str]); 15] = [
@@ -205,8 +206,14 @@ const WRITE_ANSWERS: [(&str, &[&str]); 9] = [
 ];
 
 /// The same, of a call that was made a second time with rows in another order.
-const SHUFFLED_ANSWERS: [(&str, &[&str]); 9] = [
+const SHUFFLED_ANSWERS: [(&str, &[&str]); 15] = [
     ("read", &["DONE", "REFUSED 2 ROW"]),
+    ("read 4, old byte, AUTO-INC 0", &["DONE"]),
+    ("read 4, old byte, AUTO-INC 1", &["DONE"]),
+    ("read 4, old by short packet", &["DONE"]),
+    ("read 4, old by own ID", &["DONE"]),
+    ("read 4, old by write", &["DONE"]),
+    ("read 4, old by reset", &["DONE"]),
     (
         "write",
         &[
@@ -255,7 +262,7 @@ pub struct Tally {
 }
 
 impl Tally {
-    pub fn record(&mut self, words: &[&str], answer: &str, sights: Vec<String>) {
+    pub fn record(&mut self, words: &[&str], answer: &str, sights: &[String]) {
         let word = ANSWERS
             .iter()
             .map(|(word, _)| *word)
@@ -267,9 +274,9 @@ impl Tally {
         count(&mut self.words, word.unwrap_or("other").to_string(), kind);
     }
 
-    fn look_closer(&mut self, words: &[&str], kind: &str, sights: Vec<String>) {
+    fn look_closer(&mut self, words: &[&str], kind: &str, sights: &[String]) {
         let mut note = |asked: String| count(&mut self.closer, asked, kind.to_string());
-        sights.into_iter().for_each(&mut note);
+        sights.iter().cloned().for_each(&mut note);
         match words {
             ["step", fault] => note(format!("step, fault {}", capped(fault, 3))),
             ["read", _, register] => note(format!("read, register {}", capped(register, 7))),
@@ -284,11 +291,16 @@ impl Tally {
         }
     }
 
-    /// A call that was answered alike with rows in another order.
-    pub fn record_shuffled(&mut self, line: &str, answer: &str) {
-        let word = line.split(' ').next().unwrap_or_default();
-        let asked = format!("{SHUFFLED}{word}");
-        count(&mut self.shuffled, asked, kind(word, answer));
+    /// A call that was answered alike with rows in another order. Of what it met, only an old byte is
+    /// counted: it is in no word of the call.
+    pub fn record_shuffled(&mut self, heard: &Heard) {
+        let word = heard.line.split(' ').next().unwrap_or_default();
+        let sights = heard.sights.iter().map(String::as_str);
+        let old_bytes = sights.filter(|sight| sight.starts_with(fetched::OLD_READ));
+        for asked in old_bytes.chain([word]) {
+            let asked = format!("{SHUFFLED}{asked}");
+            count(&mut self.shuffled, asked, kind(word, &heard.answer));
+        }
     }
 
     /// Those that can come and did not.
@@ -329,7 +341,7 @@ fn print_table(counts: &BTreeMap<(String, String), u64>) {
     let mut lines: Vec<_> = counts.iter().collect();
     lines.sort_by_key(|((asked, answer), _)| (asked, refusal_number(answer), answer));
     for ((asked, answer), count) in lines {
-        println!("{asked:<34}{answer:<24}{count:>10}");
+        println!("{asked:<50}{answer:<24}{count:>10}");
     }
 }
 

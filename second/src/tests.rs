@@ -1,7 +1,8 @@
 //! Values worked out by hand from document 01, from request C-11 in `tests/chaining.rs`, from C-12 in
-//! `tests/orders.rs` and from C-24 in `tests/shuffled.rs`.
+//! `tests/orders.rs`, from C-13 in `tests/fetched.rs` and from C-24 in `tests/shuffled.rs`.
 
 mod chaining;
+mod fetched;
 mod orders;
 mod shuffled;
 

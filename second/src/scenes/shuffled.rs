@@ -53,7 +53,7 @@ impl Player<'_> {
                 return Err(difference(&shuffle, &first[..=at], other));
             }
             if shuffle.moves() {
-                self.both.shuffled(&one.line, &other.answer);
+                self.both.shuffled(other);
             }
         }
         Ok(())
@@ -72,7 +72,8 @@ impl Player<'_> {
     /// row.
     fn call_of_any_row(&mut self) -> Played {
         let any = self.some_row();
-        match self.rng.weighted(&[8, 8, 2, 2, 2, 4, 4, 2, 2, 2, 2, 2]) {
+        let weights = [8, 8, 2, 2, 2, 4, 4, 2, 2, 2, 2, 2, 2, 2];
+        match self.rng.weighted(&weights) {
             0 => self.any_call(),
             1 => {
                 let sender = self.some_row_on_line().unwrap_or(any);
@@ -90,6 +91,8 @@ impl Player<'_> {
             8 => self.change_chaining(any, 0x38),
             9 => self.masked_interrupt(any),
             10 => self.twin_and_tentative_id(),
+            11 => self.packet_over_fetched_bytes(),
+            12 => self.old_byte(any),
             _ => self.lap_anew(),
         }
     }
@@ -98,7 +101,7 @@ impl Player<'_> {
 /// The calls of the first time up to the one that is answered otherwise in the other order.
 fn difference(shuffle: &Shuffle, first: &[Heard], other: &Heard) -> String {
     let mut text = String::new();
-    for Heard { line, answer } in &first[first.len().saturating_sub(SHOWN)..] {
+    for Heard { line, answer, .. } in &first[first.len().saturating_sub(SHOWN)..] {
         text += &format!("> {line}\n  {}\n", shortened(answer));
     }
     let wanted = first

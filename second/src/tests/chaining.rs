@@ -315,7 +315,7 @@ fn c11_11_bytes_16_to_31() {
         (idle, (19, 0x82), false),
         (idle, (20, 0x01), false),
         (idle, (31, 0x80), false),
-        (idle, (32, 0x01), false),
+        (idle, (33, 0x01), false),
     ];
     for (changes, (byte, value), fits) in cases {
         for cchen in [0x58, 0x18] {
