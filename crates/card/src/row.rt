@@ -141,7 +141,7 @@ pub fn hardware_reset(row: &mut [u8])
     store(row, Regs::hardware_reset());
 }
 
-// The registers that an access leaves. C-13: where it fetches, the RAM byte at their pointer goes to byte 32.
+// The registers that an access leaves are written. C-13: where it fetches, byte 32 becomes the RAM byte at their pointer.
 fn put_accessed(row: &mut [u8], fetches: bool, g: Regs)
     requires { ⌜ Whole (now row) ⌝ }
     ensures { λ _. ⌜ now (row .exit) ≡ accessed (now (row .entry)) fetches g ⌝ }
