@@ -43,8 +43,10 @@ NoneSets k (c ∷ l) net = (sets k c net ≡ false) × NoneSets k l (called c ne
 pub record Ahead (net : List ℕ) (k : ℕ) : Type 0 where
   -- "So a read answers the fetched byte"
   pub answers : netReading net k 4 .number ≡ 0 → netReading net k 4 .value ≡ fetchedAt net k
-  -- "the card fetches the byte when the low pointer is loaded", whatever RDDATA is, "and again after an incremented read": the byte at the pointer as that leaves it
-  pub loaded : (v : ℕ) → netWriteNumber net k 3 v ≡ 0 → Current (rowAt (netAfterWrite net k 3 v) k)
+  -- "the card fetches the byte when the low pointer is loaded", which is never refused, whatever RDDATA is, "and again after an incremented read": the byte at the
+  -- pointer as that leaves it
+  pub taken : (v : ℕ) → netWriteNumber net k 3 v ≡ 0
+  pub loaded : (v : ℕ) → Current (rowAt (netAfterWrite net k 3 v) k)
   pub read-on : netReading net k 4 .number ≡ 0 → has AUTO-INC (regsAt net k .mode) ≡ true → Current (rowAt (netAfterRead net k 4) k)
   -- "without AUTO-INC the same byte is read again": no byte has changed
   pub again : has AUTO-INC (regsAt net k .mode) ≡ false → netAfterRead net k 4 ≡ net
@@ -52,7 +54,7 @@ pub record Ahead (net : List ℕ) (k : ℕ) : Type 0 where
   pub reset : placeNumber net k ≡ 0 → fetchedAt (netAfterReset net k) k ≡ 0
   pub kept : (c : Call) → sets k c net ≡ false → fetchedAt (called c net) k ≡ fetchedAt net k
   -- "even if a packet has since been stored over it": after a load, and any calls of which none sets it, a read answers the RAM byte as the load found it
-  pub old-byte : (v : ℕ) → v < 256 → netWriteNumber net k 3 v ≡ 0 → (l : List Call) → NoneSets k l (netAfterWrite net k 3 v)
+  pub old-byte : (v : ℕ) → v < 256 → (l : List Call) → NoneSets k l (netAfterWrite net k 3 v)
       → let new = table l (netAfterWrite net k 3 v) in netReading new k 4 .number ≡ 0 → netReading new k 4 .value ≡ pointedAt (netAfterWrite net k 3 v) k
   -- document 01's "Register 4 reads .. the RAM byte at the pointer", where that byte is as it was fetched
   pub as-before : Current (rowAt net k) → netReading net k 4 .number ≡ 0 → netReading net k 4 .value ≡ pointedAt net k

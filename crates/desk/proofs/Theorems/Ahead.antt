@@ -29,7 +29,7 @@ use Rattle.table.specs.Network.{rows, phase, holder, LOST, PASS, regsAt, onLine
 use Rattle.table.specs.Calls.{netWriteMoves, netAfterWrite}
 use Rattle.table.proofs.Shaped.Alike.{Good, bytes-rams}
 use Rattle.table.proofs.Access.Others.{read-only, write-only, reset-only, timer-only}
-use Rattle.table.proofs.Access.Ahead.{reading-fetched, read-on, reads-again, loads, resets}
+use Rattle.table.proofs.Access.Ahead.{reading-fetched, read-on, reads-again, load-unrefused, loads, resets}
 use Rattle.line.specs.Step.{step}
 use Rattle.line.specs.Outcomes.{sentPage, sentShape, stores, holderBytes, storingBytes, rowMoves}
 use Rattle.line.proofs.Promised.EveryRow.{step-moves}
@@ -116,13 +116,14 @@ reads-ahead net b s k l =
     let g : Good (rows net) net = record { fits = s; rams = bytes-rams net s b; count = refl } in
     record {
       answers = reading-fetched net s k l;
+      taken = load-unrefused net s k l;
       loaded = loads net s k l;
       read-on = read-on net s k l;
       again = reads-again net s k l;
       reset = resets net s k l;
       kept = call-kept k l net g;
-      old-byte = λ v h z c e. let new = netAfterWrite net k 3 v in
+      old-byte = λ v h c e. let new = netAfterWrite net k 3 v in
           let t = calls-kept k l c new (good-called net g (At k (Write 3 v h))) e in
-          λ y. reading-fetched (table c new) (t .0 .fits) k (omega (arith, t .0 .count)) y ∙ t .1 ∙ loads net s k l v z;
+          λ y. reading-fetched (table c new) (t .0 .fits) k (omega (arith, t .0 .count)) y ∙ t .1 ∙ loads net s k l v;
       as-before = λ c y. reading-fetched net s k l y ∙ c;
     }

@@ -1,4 +1,4 @@
--- C-13: what a read of register 4 gives, and which accesses may change the fetched byte.
+-- C-13: what a read of register 4 gives, that a load is not refused, and which accesses may change the fetched byte.
 -- Assumes nothing.
 use mathlib.Core.Path.{_≡_, refl}
 use mathlib.Core.Bool.{Bool, true, false}
@@ -8,14 +8,21 @@ use lib.Dec.{eqb}
 use Rattle.registers.specs.declared.regs.Regs.{Regs}
 use Rattle.bits.specs.Words.{among}
 use Rattle.registers.specs.Sides.{chaining}
-use Rattle.registers.specs.Registers.{sub, readFetches, writeFetches, readValue, hardwareReset}
+use Rattle.registers.specs.Fit.{onLine}
+use Rattle.registers.specs.Registers.{sub, readFetches, writeFetches, readValue, hardwareReset, writesId}
+use Rattle.registers.specs.Refusals.{noRegister, badValue, writeRefusals, writeNumber}
 use Rattle.registers.specs.Layout.{at-fetched, queueBytes, readChanges, writeChanges}
-use Rattle.bits.proofs.Words.Bools.{pick-of}
+use Rattle.bits.proofs.Words.Bools.{and-false, pick-of}
+use Rattle.told.proofs.Told.Smallest.{refuse-passed}
 
 module _ (g : Regs) where
   pub value-fetched : readValue g 4 ≡ g .later .fetched
   unfolding readValue
   value-fetched = refl
+
+  pub load-taken : (v : ℕ) → writeNumber g 3 v ≡ 0
+  unfolding writeRefusals noRegister badValue writesId
+  load-taken v = let o = and-false (onLine g) in search (o, refuse-passed)
 
   -- an access that does not fetch
   abbrev Without : List ℕ → Type 0
