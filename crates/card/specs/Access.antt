@@ -12,14 +12,18 @@ use Rattle.registers.specs.declared.regs.Regs.{Regs}
 use Rattle.registers.specs.Layout.{at-fetched}
 use Rattle.registers.specs.Registers.{pointer, readFetches, writeFetches, fetched, readValue, afterRead, afterWrite, hardwareReset}
 
--- where the RAM byte at the pointer stands in the row
+-- where the RAM byte at the pointer of the registers g stands in a row, and that byte
+abbrev pub placeOf : Regs → ℕ
+placeOf g = registerBytes + pointer g
+
+abbrev pub ramAt : List ℕ → Regs → ℕ
+ramAt r g = getD r (placeOf g) 0
+
+-- where it stands for the row's own registers
 abbrev pub pointed : List ℕ → ℕ
-pointed r = registerBytes + pointer (regsOf r)
+pointed r = placeOf (regsOf r)
 
 -- the row that an access leaves with the registers g; C-13: where it fetches, the fetched byte is the RAM byte at their pointer
-abbrev pub ramAt : List ℕ → Regs → ℕ
-ramAt r g = getD r (registerBytes + pointer g) 0
-
 abbrev pub accessed : List ℕ → Bool → Regs → List ℕ
 accessed r fetches g = putRegs r (fetched fetches (ramAt r g) g)
 

@@ -12,7 +12,7 @@ use Rattle.registers.specs.Layout.{at-fetched}
 use Rattle.card.specs.Access.{ramAt, Current}
 use Rattle.table.specs.Rows.{rowAt}
 use Rattle.table.specs.Network.{Bytes, rows, regsAt, shape}
-use Rattle.table.specs.Calls.{placeNumber, netReading, netAfterRead, netWriteNumber, netAfterWrite, netAfterReset}
+use Rattle.table.specs.Calls.{netReading, netAfterRead, netWriteNumber, netAfterWrite, netAfterReset}
 use Rattle.desk.specs.Host.{Call, At, Read, Write, Reset, Timer, Interrupt, Data, DataNumber, Step, Lap, called, table}
 
 -- "row byte 32" of row k, and the RAM byte at its pointer
@@ -51,7 +51,7 @@ pub record Ahead (net : List ℕ) (k : ℕ) : Type 0 where
   -- "without AUTO-INC the same byte is read again": no byte has changed
   pub again : has AUTO-INC (regsAt net k .mode) ≡ false → netAfterRead net k 4 ≡ net
   -- "Hardware reset sets it to 0"; each other call leaves it, a software reset, a write of register 4 and a step that stores a packet over the RAM byte among them
-  pub reset : placeNumber net k ≡ 0 → fetchedAt (netAfterReset net k) k ≡ 0
+  pub reset : fetchedAt (netAfterReset net k) k ≡ 0
   pub kept : (c : Call) → sets k c net ≡ false → fetchedAt (called c net) k ≡ fetchedAt net k
   -- "even if a packet has since been stored over it": after a load, and any calls of which none sets it, a read answers the RAM byte as the load found it
   pub old-byte : (v : ℕ) → v < 256 → (l : List Call) → NoneSets k l (netAfterWrite net k 3 v)

@@ -28,6 +28,7 @@ use Rattle.table.specs.Rows.{rowAt}
 use Rattle.table.specs.Network.{rows, phase, holder, LOST, PASS, regsAt, onLineAt, OnlyRow}
 use Rattle.table.specs.Calls.{netWriteMoves, netAfterWrite}
 use Rattle.table.proofs.Shaped.Alike.{Good, bytes-rams}
+use Rattle.table.proofs.Access.Placed.{row-placed}
 use Rattle.table.proofs.Access.Others.{read-only, write-only, reset-only, timer-only}
 use Rattle.table.proofs.Access.Ahead.{reading-fetched, read-on, reads-again, load-unrefused, loads, resets}
 use Rattle.line.specs.Step.{step}
@@ -120,7 +121,7 @@ reads-ahead net b s k l =
       loaded = loads net s k l;
       read-on = read-on net s k l;
       again = reads-again net s k l;
-      reset = resets net s k l;
+      reset = resets net s k l (row-placed net k s l);
       kept = call-kept k l net g;
       old-byte = λ v h c e. let new = netAfterWrite net k 3 v in
           let t = calls-kept k l c new (good-called net g (At k (Write 3 v h))) e in
