@@ -35,7 +35,7 @@ shownTA = 2 ^ 5
 abbrev pub TTA : ℕ
 TTA = 2 ^ 0
 
--- "Diagnostic: MYRECON 7, DUPID 6, RCVACT 5, TOKEN 4, EXCNAK 3 (0 for now), TENTID 2"
+-- "Diagnostic: MYRECON 7, DUPID 6, RCVACT 5, TOKEN 4, EXCNAK 3 .., TENTID 2"
 abbrev pub MYRECON : ℕ
 MYRECON = 2 ^ 7
 
@@ -90,7 +90,7 @@ abbrev pub statusBits : ℕ
 statusBits = RI + POR + RECON + TMA + TA
 
 abbrev pub diagnosticBits : ℕ
-diagnosticBits = MYRECON + DUPID + RCVACT + TOKEN + TENTID
+diagnosticBits = MYRECON + DUPID + RCVACT + TOKEN + EXCNAK + TENTID
 
 -- "Mask write: bits 7, 3, 2, 0"
 abbrev pub maskBits : ℕ

@@ -49,7 +49,7 @@ pub const LOW2: u8 = 3;
 // The bits that have a name; the others are zero.
 pub const STATUS: u8 = RI | POR | RECON | TMA | TA;
 
-pub const DIAGNOSTIC: u8 = MYRECON | DUPID | RCVACT | TOKEN | TENTID;
+pub const DIAGNOSTIC: u8 = MYRECON | DUPID | RCVACT | TOKEN | EXCNAK | TENTID;
 
 pub const MASK: u8 = RI | EXCNAK | RECON | TA;
 

@@ -1,4 +1,4 @@
--- What is promised of every step: faults, the rows that neither send nor store, the holder.
+-- What is promised of every step: faults, the rows that neither send nor store, the holder, and whom an answer names.
 pub mod Faults
 pub mod Asides
 pub mod Filling
@@ -6,3 +6,4 @@ pub mod Bystanding
 pub mod Left
 pub mod TheHolder
 pub mod EveryRow
+pub mod Who

@@ -13,7 +13,7 @@ use Rattle.line.specs.declared.traffic.Outcome.the-variants.{Nothing, Ma
 use Rattle.line.specs.declared.step.Answer.{Answer}
 use Rattle.line.specs.declared.step.Answer.the-variants.{Refused, Quiet, Recovered, Passed, Unanswered, TokenLost, Held}
 use Rattle.bits.specs.Words.{pick, has, among}
-use Rattle.registers.specs.Layout.{at-status, at-diagnostic, at-nid, at-receive, at-second-receive, transmitBytes, receiveBytes}
+use Rattle.registers.specs.Layout.{at-status, at-diagnostic, at-nid, at-receive, at-second-receive, transmitBytes, receiveBytes, nakBytes}
 use Rattle.registers.specs.Sides.{chaining, tta}
 use Rattle.bits.specs.Flags.{TMA, TA}
 use Rattle.queues.specs.Queues.{two, movedUp}
@@ -21,7 +21,7 @@ use Rattle.card.specs.Packets.{pageAt, malformed, pageShape, destination, stora
 use Rattle.card.specs.Moves.{inPacket}
 use Rattle.registers.specs.Events.{heard, cancelled, sent, enquired, transmitting, receiving, transmitPage, receivePage}
 use Rattle.table.specs.Rows.{rowAt}
-use Rattle.table.specs.Network.{rows, phase, holder, LOST, PASS, TAKEN, regsAt, nodeOf}
+use Rattle.table.specs.Network.{rows, phase, holder, LOST, PASS, TAKEN, regsAt, isNode, nodeOf}
 use Rattle.line.specs.Traffic.{damaged, takes}
 use Rattle.line.specs.Step.{stepNumber}
 
@@ -54,9 +54,10 @@ stores net fault j =
 -- ---- "no other byte moves": the bytes of row j that a step may move, where the row stores the packet or does not
 -- LOST: "RECON is set in every awake row, each on-line row's NID becomes its own ID". PASS: RCVACT, TOKEN, DUPID and TENTID in the rows; "NID rises by one". TAKEN:
 -- in the holder its cancels, RCVACT, TA, TMA and byte 13, and "own ID .. at byte 0 of the transmit page"; in the others RCVACT, and where the packet is stored
--- "RI = 1, byte 14 zero", and its places in the receive page; C-11: of a chaining row also the second's bytes and the ends that are not cleared
+-- "RI = 1, byte 14 zero", and its places in the receive page; C-11: of a chaining row also the second's bytes and the ends that are not cleared; C-16: in the
+-- holder EXCNAK and the count
 abbrev pub holderBytes : Bool → List ℕ
-holderBytes chaining = at-status ∷ at-diagnostic ∷ at-receive ∷ pick chaining (at-second-receive ∷ []) [] ++ transmitBytes chaining
+holderBytes chaining = at-status ∷ at-receive ∷ pick chaining (at-second-receive ∷ []) [] ++ nakBytes ++ transmitBytes chaining
 
 abbrev pub storingBytes : Bool → List ℕ
 storingBytes chaining = at-status ∷ receiveBytes chaining
@@ -68,47 +69,64 @@ rowMoves net storing j i =
     (pick (eqb j (holder net)) (among (holderBytes (chaining (regsAt net j))) i || eqb i (pageAt (rowAt net j) (sentPage net)))
     (eqb i at-diagnostic || storing && (among (storingBytes (chaining (regsAt net j))) i || inPacket (pageAt (rowAt net j) (receivePage (regsAt net j))) (sentShape net) i))))
 
+-- ---- C-16: whom an outcome names, and what it says of the packet
+-- "ACK and NAK shall name the answering row": on line, with the packet's DID, and not the sender
+pub record Answerer (net : List ℕ) (r : ℕ) : Type 0 where
+  pub there : r < rows net
+  pub carries : isNode net (sentTo net) r ≡ true
+  pub other : r ≡ holder net → ⊥
+
+-- its RI was 1; or the packet went, of that shape, and was stored there or was not
+abbrev pub Named : List ℕ → ℕ → Outcome → Type 0
+Named net fault Nothing = Unit {0}
+Named net fault Malformed = Unit {0}
+Named net fault (Broadcast s) = s ≡ sentShape net
+Named net fault NoAnswer = Unit {0}
+Named net fault (Nak r) = Answerer net r × (receiving (regsAt net r) ≡ false)
+Named net fault (Delivered r s) = Answerer net r × ((s ≡ sentShape net) × (stores net fault r ≡ true))
+Named net fault (Unacknowledged r s stored) = Answerer net r × ((s ≡ sentShape net) × (stores net fault r ≡ stored))
+
 -- ---- what an outcome says of the holder's TA, TMA and TTA after the step
 -- "Nothing (TA already 1). Malformed: TA = 1. DID 0, Broadcast: TA = 1 .. NoAnswer, TA = 1; .. NAK, TA stays 0; .. Delivered, TA = 1 and TMA = 1.
 -- .. Unacknowledged, TA = 1, TMA = 0"
 abbrev pub outcomeTA : Outcome → Bool
 outcomeTA Nothing = true
 outcomeTA Malformed = true
-outcomeTA Broadcast = true
+outcomeTA (Broadcast s) = true
 outcomeTA NoAnswer = true
-outcomeTA Nak = false
-outcomeTA Delivered = true
-outcomeTA Unacknowledged = true
+outcomeTA (Nak r) = false
+outcomeTA (Delivered r s) = true
+outcomeTA (Unacknowledged r s stored) = true
 
 -- where no packet was tried TMA is as it was; a packet that was not acknowledged, or did not go, leaves it 0
 abbrev pub outcomeTMA : Outcome → Bool → Bool
 outcomeTMA Nothing was = was
 outcomeTMA Malformed was = false
-outcomeTMA Broadcast was = false
+outcomeTMA (Broadcast s) was = false
 outcomeTMA NoAnswer was = false
-outcomeTMA Nak was = false
-outcomeTMA Delivered was = true
-outcomeTMA Unacknowledged was = false
+outcomeTMA (Nak r) was = false
+outcomeTMA (Delivered r s) was = true
+outcomeTMA (Unacknowledged r s stored) was = false
 
 -- C-11, "TTA .. set on completion": whether a transmit ended
 abbrev pub completes : Outcome → Bool
 completes Nothing = false
 completes Malformed = true
-completes Broadcast = true
+completes (Broadcast s) = true
 completes NoAnswer = true
-completes Nak = false
-completes Delivered = true
-completes Unacknowledged = true
+completes (Nak r) = false
+completes (Delivered r s) = true
+completes (Unacknowledged r s stored) = true
 
 -- what happened to the holder's registers: its cancels took effect; then the transmit ended, acknowledged or not, or it waits on; an ACK or NAK was heard
 abbrev pub holderAfter : Outcome → Regs → Regs
 holderAfter Nothing g = cancelled g
 holderAfter Malformed g = sent (cancelled g) false
-holderAfter Broadcast g = sent (cancelled g) false
+holderAfter (Broadcast s) g = sent (cancelled g) false
 holderAfter NoAnswer g = enquired (cancelled g) false
-holderAfter Nak g = enquired (cancelled g) true
-holderAfter Delivered g = sent (heard (cancelled g) false) true
-holderAfter Unacknowledged g = sent (heard (cancelled g) false) false
+holderAfter (Nak r) g = enquired (cancelled g) true
+holderAfter (Delivered r s) g = sent (heard (cancelled g) false) true
+holderAfter (Unacknowledged r s stored) g = sent (heard (cancelled g) false) false
 
 -- the holder's registers before and after the step: what happened to them and no more, and so TA, TMA, TTA and byte 13. TA is 1 where no second waits after the
 -- cancels, else the second has moved up; "the status of the first kept": TMA stays with TTA
@@ -130,21 +148,21 @@ pub record PlainLeft (before after : Regs) (o : Outcome) : Type 0 where
 abbrev pub packetGoes : Outcome → Bool
 packetGoes Nothing = false
 packetGoes Malformed = false
-packetGoes Broadcast = true
+packetGoes (Broadcast s) = true
 packetGoes NoAnswer = false
-packetGoes Nak = false
-packetGoes Delivered = true
-packetGoes Unacknowledged = true
+packetGoes (Nak r) = false
+packetGoes (Delivered r s) = true
+packetGoes (Unacknowledged r s stored) = true
 
 -- 2, a final ACK
 abbrev pub ackComes : Outcome → Bool
 ackComes Nothing = false
 ackComes Malformed = false
-ackComes Broadcast = false
+ackComes (Broadcast s) = false
 ackComes NoAnswer = false
-ackComes Nak = false
-ackComes Delivered = true
-ackComes Unacknowledged = false
+ackComes (Nak r) = false
+ackComes (Delivered r s) = true
+ackComes (Unacknowledged r s stored) = false
 
 -- 3, an invitation
 abbrev pub meets : ℕ → Answer → Bool

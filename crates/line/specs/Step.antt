@@ -6,13 +6,14 @@ use Prim.Native.Nat.{ℕ}
 use lib.Dec.{eqb, ltb}
 use Rattle.line.specs.declared.passes.Event.the-variants.{Recovery, Message, Taken}
 use Rattle.line.specs.declared.traffic.Outcome.{Outcome}
+use Rattle.line.specs.declared.traffic.Outcome.the-variants.{Nothing, Malformed, Broadcast, NoAnswer, Nak, Delivered, Unacknowledged}
 use Rattle.line.specs.declared.step.Answer.{Answer}
 use Rattle.line.specs.declared.step.Answer.the-variants.{Refused, Quiet, Recovered, Passed, Unanswered, TokenLost, Held}
 use Rattle.bits.specs.Words.{pick}
 use Rattle.told.specs.Numbers.{SHAPE, VALUE, Refusal, _when_, told}
 use Rattle.registers.specs.Events.{risenNid}
 use Rattle.table.specs.Network.{rows, phase, holder, LOST, PASS, TAKEN, turned, regsAt, nodeOf, topId, shape}
-use Rattle.line.specs.Traffic.{Turn, onRow, happened, takenTurn}
+use Rattle.line.specs.Traffic.{outcomeRow, Turn, onRow, happened, takenTurn}
 
 -- "3 invitation destroyed"
 abbrev pub destroyed : ℕ → Bool
@@ -72,7 +73,7 @@ answerNumber (Unanswered i) = 0
 answerNumber TokenLost = 0
 answerNumber (Held o) = 0
 
--- the row, or the ID, that an answer names; 0 where it names none
+-- the row, or the ID, that an answer names, of Held the row that answered the enquiry; 0 where it names none
 abbrev pub answerValue : Answer → ℕ
 answerValue (Refused n) = 0
 answerValue Quiet = 0
@@ -80,9 +81,18 @@ answerValue (Recovered r) = r
 answerValue (Passed r) = r
 answerValue (Unanswered i) = i
 answerValue TokenLost = 0
-answerValue (Held o) = 0
+answerValue (Held o) = outcomeRow o
 
 -- C-24, "the same answers with rows renamed": the row that an answer names; the ID stays
+abbrev pub outcomeTo : (ℕ → ℕ) → Outcome → Outcome
+outcomeTo to Nothing = Nothing
+outcomeTo to Malformed = Malformed
+outcomeTo to (Broadcast s) = Broadcast s
+outcomeTo to NoAnswer = NoAnswer
+outcomeTo to (Nak r) = Nak (to r)
+outcomeTo to (Delivered r s) = Delivered (to r) s
+outcomeTo to (Unacknowledged r s stored) = Unacknowledged (to r) s stored
+
 abbrev pub renamed : (ℕ → ℕ) → Answer → Answer
 renamed to (Refused n) = Refused n
 renamed to Quiet = Quiet
@@ -90,4 +100,4 @@ renamed to (Recovered r) = Recovered (to r)
 renamed to (Passed r) = Passed (to r)
 renamed to (Unanswered i) = Unanswered i
 renamed to TokenLost = TokenLost
-renamed to (Held o) = Held o
+renamed to (Held o) = Held (outcomeTo to o)

@@ -18,6 +18,16 @@ use Rattle.card.specs.Packets.{storable}
 use Rattle.table.specs.Rows.{rowAt, setRow, eachRow}
 use Rattle.table.specs.Network.{rows, onRegs, regsAt, nodeOf}
 
+-- the row that answered the enquiry; 0 where none did
+abbrev pub outcomeRow : Outcome → ℕ
+outcomeRow Nothing = 0
+outcomeRow Malformed = 0
+outcomeRow (Broadcast s) = 0
+outcomeRow NoAnswer = 0
+outcomeRow (Nak r) = r
+outcomeRow (Delivered r s) = r
+outcomeRow (Unacknowledged r s stored) = r
+
 -- an answer, and the network after it
 pub record Turn (A : Type 0) : Type 0 where
   pub answer : A
@@ -72,15 +82,18 @@ wentOut net h p fault to broadcast =
 -- ---- TAKEN, the holder's packet
 -- "DID 0, Broadcast: TA = 1, every other awake row, on line or not, with RI = 0 and broadcasts wanted stores it"
 unfoldable pub broadcastTurn : List ℕ → ℕ → ℕ → ℕ → Turn Outcome
-broadcastTurn net h p fault = record { answer = Broadcast; after = onRow (wentOut net h p fault (rows net) true) h (λ g. sent g false) }
+broadcastTurn net h p fault = record { answer = Broadcast (pageShape (rowAt net h) p); after = onRow (wentOut net h p fault (rows net) true) h (λ g. sent g false) }
 
--- "Stored and heard: Delivered, TA = 1 and TMA = 1. Not stored, or fault 2: Unacknowledged, TA = 1, TMA = 0"
+-- "Stored and heard: Delivered, TA = 1 and TMA = 1. Not stored, or fault 2: Unacknowledged, TA = 1, TMA = 0"; C-16: row t answered the enquiry
+abbrev pub arrives : List ℕ → ℕ → ℕ → ℕ → ℕ → Bool
+arrives net h p fault t = not (damaged fault) && storable (regsAt net t) (pageShape (rowAt net h) p)
+
 abbrev pub acknowledged : List ℕ → ℕ → ℕ → ℕ → ℕ → Bool
-acknowledged net h p fault t = not (damaged fault) && storable (regsAt net t) (pageShape (rowAt net h) p) && not (ackLost fault)
+acknowledged net h p fault t = arrives net h p fault t && not (ackLost fault)
 
 unfoldable pub packetTurn : List ℕ → ℕ → ℕ → ℕ → ℕ → Turn Outcome
 packetTurn net h p fault t = record {
-  answer = pick (acknowledged net h p fault t) Delivered Unacknowledged;
+  answer = pick (acknowledged net h p fault t) (Delivered t (pageShape (rowAt net h) p)) (Unacknowledged t (pageShape (rowAt net h) p) (arrives net h p fault t));
   after = onRow (wentOut net h p fault t false) h (λ g. sent (heard g false) (acknowledged net h p fault t));
 }
 
@@ -92,7 +105,7 @@ asked net h nak = onRow (happened net (Message h false)) h (λ g. enquired g nak
 unfoldable pub enquiryTurn : List ℕ → ℕ → ℕ → ℕ → ℕ → Turn Outcome
 enquiryTurn net h p fault t =
     pick (ltb t (rows net))
-    (pick (receiving (regsAt net t)) (packetTurn net h p fault t) (record { answer = Nak; after = asked net h true }))
+    (pick (receiving (regsAt net t)) (packetTurn net h p fault t) (record { answer = Nak t; after = asked net h true }))
     (record { answer = NoAnswer; after = asked net h false })
 
 -- the packet of page p: "Malformed: TA = 1. DID 0, Broadcast .. Otherwise an enquiry"

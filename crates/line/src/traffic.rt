@@ -3,10 +3,11 @@ ghost use mathlib.Core.Path.{_≡_};
 ghost use mathlib.Core.Bool.{true};
 ghost use Prim.Native.Nat.{_<_};
 ghost use Rattle.table.specs.Network.{rows, shape};
-ghost use Rattle.line.specs.Traffic.{wentOut, asked, broadcastTurn, packetTurn, enquiryTurn, tryTurn, takenTurn};
+ghost use Rattle.line.specs.Traffic.{outcomeRow, wentOut, asked, broadcastTurn, packetTurn, enquiryTurn, tryTurn, takenTurn};
 use crate::passes::Event;
 use crate::passes::carry;
 use crate::passes::happen;
+use card::packets::Shape;
 use table::network::node_of;
 use table::network::put_regs;
 use table::network::regs_at;
@@ -15,15 +16,33 @@ use table::network::row_end;
 use table::network::row_start;
 use table::network::rows;
 
-// What becomes of the holder's packet.
+// What becomes of the holder's packet: where ACK or NAK answered its enquiry, the row that did; of a packet that went,
+// its shape; and of one whose ACK did not come, whether it was stored.
 pub enum Outcome {
     Nothing,
     Malformed,
-    Broadcast,
+    Broadcast(Shape),
     NoAnswer,
-    Nak,
-    Delivered,
-    Unacknowledged,
+    Nak(usize),
+    Delivered(usize, Shape),
+    Unacknowledged(usize, Shape, bool),
+}
+
+impl Outcome {
+    // The row that answered the enquiry; 0 where none did.
+    pub fn row(self) -> usize
+        ensures { λ r. ⌜ r ≡ outcomeRow self ⌝ }
+    {
+        match self {
+            Outcome::Nothing => 0,
+            Outcome::Malformed => 0,
+            Outcome::Broadcast(_) => 0,
+            Outcome::NoAnswer => 0,
+            Outcome::Nak(row) => row,
+            Outcome::Delivered(row, _) => row,
+            Outcome::Unacknowledged(row, _, _) => row,
+        }
+    }
 }
 
 // A packet goes out of page `page` of row h: the row's ID is put at its head, the others hear it, and it is stored
@@ -60,9 +79,9 @@ fn deliver(net: &mut [u8], h: usize, page: usize, fault: usize, t: usize) -> Out
     let g = regs_at(net, h).heard(false).sent(acknowledged);
     put_regs(net, h, g);
     if acknowledged {
-        return Outcome::Delivered;
+        return Outcome::Delivered(t, shape);
     }
-    Outcome::Unacknowledged
+    Outcome::Unacknowledged(t, shape, stored)
 }
 
 // An enquiry of row h that no packet follows: the others hear it, and a NAK answered it or nobody did.
@@ -93,7 +112,7 @@ fn enquire(net: &mut [u8], h: usize, page: usize, fault: usize, t: usize) -> Out
         return deliver(net, h, page, fault, t);
     }
     asked(net, h, true);
-    Outcome::Nak
+    Outcome::Nak(t)
 }
 
 fn broadcast(net: &mut [u8], h: usize, page: usize, fault: usize) -> Outcome
@@ -104,10 +123,11 @@ fn broadcast(net: &mut [u8], h: usize, page: usize, fault: usize) -> Outcome
     ensures bytes { λ _. ⌜ now (net .exit) ≡ broadcastTurn (now (net .entry)) h page fault .after ⌝ }
 {
     let n = rows(net);
+    let shape = card::packets::page_shape(row_at(net, h), page);
     send(net, h, page, fault, n, true);
     let g = regs_at(net, h).sent(false);
     put_regs(net, h, g);
-    Outcome::Broadcast
+    Outcome::Broadcast(shape)
 }
 
 // The holder tries the packet of a page.

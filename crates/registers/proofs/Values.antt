@@ -1,6 +1,7 @@
 -- Registers by value: those that fit, and what each call and event leaves of them.
 pub mod Fits
 pub mod FitBytes
+pub mod FitNaks
 pub mod FitEvents
 pub mod FitCommands
 pub mod FitCalls
@@ -16,3 +17,4 @@ pub mod Loads
 pub mod Rising
 pub mod Sums
 pub mod Plains
+pub mod Unrefuseds

@@ -1,15 +1,16 @@
 -- Document 01, "One line step": what the line does to one card's registers, and what it asks of them.
 -- Assumes nothing.
-use mathlib.Core.Bool.{Bool, false, not, _&&_}
+use mathlib.Core.Bool.{Bool, true, false, not, _&&_}
 use Prim.Native.Nat.{ℕ, _+_, _%_}
 use lib.Dec.{eqb}
 use Rattle.bits.specs.declared.way.Way.the-variants.{Transmit, Receive}
 use Rattle.registers.specs.declared.regs.Regs.{Regs}
 use Rattle.bits.specs.Words.{pick, clear, has, raise, raiseIf}
-use Rattle.bits.specs.Flags.{RI, RECON, TA, MYRECON, DUPID, RCVACT, TOKEN, TENTID, BROADCASTS}
+use Rattle.bits.specs.Flags.{RI, RECON, TA, MYRECON, DUPID, RCVACT, TOKEN, TENTID, CANCEL, BROADCASTS}
 use Rattle.registers.specs.Fields.{with-status, with-diagnostic, with-nid}
 use Rattle.queues.specs.Queues as queues
 use Rattle.registers.specs.Sides.{chaining, sideOf, withSide}
+use Rattle.registers.specs.Naks.{nakCounted, naksDropped}
 use Rattle.registers.specs.Fit.{awake, onLine}
 
 -- "A row that comes on line bursts: its MYRECON is set .. So does a timer expiry"
@@ -40,9 +41,9 @@ unfoldable pub received : Regs → Regs
 received g = withSide Receive (queues.ended Receive (chaining g) false (sideOf Receive g)) g
 
 -- "cancels asked in the holder's row take effect first (transmit: TA = 1; receive: RI = 1, byte 14 zero)"; "wherever TA becomes 1, byte 13
--- becomes zero"
+-- becomes zero"; C-16: a cancel of the oldest ends that transmit, and its NAKs are dropped
 abbrev pub transmitCancelled : Regs → Regs
-transmitCancelled g = withSide Transmit (queues.cancelled Transmit (sideOf Transmit g)) g
+transmitCancelled g = naksDropped (has CANCEL (g .transmit .oldest)) (withSide Transmit (queues.cancelled Transmit (sideOf Transmit g)) g)
 
 abbrev pub receiveCancelled : Regs → Regs
 receiveCancelled g = withSide Receive (queues.cancelled Receive (sideOf Receive g)) g
@@ -51,13 +52,13 @@ unfoldable pub cancelled : Regs → Regs
 cancelled g = receiveCancelled (transmitCancelled g)
 
 -- a transmit ends: "TA = 1 and TMA = 1", or "TA = 1, TMA = 0"; byte 13 zero; C-11: or the second moves up, and TTA is set. Where 01 says "TA = 1" alone
--- (Malformed, Broadcast, NoAnswer) TMA is 0 already, or tells of another end: TA was 0
+-- (Malformed, Broadcast, NoAnswer) TMA is 0 already, or tells of another end: TA was 0; C-16: the count "goes to 0 when that transmit ends", with EXCNAK
 unfoldable pub sent : Regs → Bool → Regs
-sent g acknowledged = withSide Transmit (queues.ended Transmit (chaining g) acknowledged (sideOf Transmit g)) g
+sent g acknowledged = naksDropped true (withSide Transmit (queues.ended Transmit (chaining g) acknowledged (sideOf Transmit g)) g)
 
--- an enquiry that no packet followed: "NAK, TA stays 0", and "RCVACT .. in the holder if ACK or NAK answered"; or "NoAnswer, TA = 1"
+-- an enquiry that no packet followed: "NAK, TA stays 0", which C-16 counts, and "RCVACT .. in the holder if ACK or NAK answered"; or "NoAnswer, TA = 1"
 unfoldable pub enquired : Regs → Bool → Regs
-enquired g nak = pick nak (heard g false) (sent g false)
+enquired g nak = pick nak (heard (nakCounted g) false) (sent g false)
 
 -- a transmit waits: TA is 0; the receiver is enabled: RI is 0
 unfoldable pub transmitting : Regs → Bool

@@ -48,3 +48,6 @@ with-long v g = record { id = g .id; status = g .status; diagnostic = g .diagnos
 
 abbrev pub with-fetched : ℕ → Regs → Regs
 with-fetched v g = record { id = g .id; status = g .status; diagnostic = g .diagnostic; mask = g .mask; configuration = g .configuration; setup = g .setup; tentative = g .tentative; nid = g .nid; high = g .high; low = g .low; mode = g .mode; transmit = g .transmit; receive = g .receive; long = g .long; later = record { fetched = v; naklow = g .later .naklow; nakhigh = g .later .nakhigh } }
+
+abbrev pub with-naks : ℕ → ℕ → Regs → Regs
+with-naks low high g = record { id = g .id; status = g .status; diagnostic = g .diagnostic; mask = g .mask; configuration = g .configuration; setup = g .setup; tentative = g .tentative; nid = g .nid; high = g .high; low = g .low; mode = g .mode; transmit = g .transmit; receive = g .receive; long = g .long; later = record { fetched = g .later .fetched; naklow = low; nakhigh = high } }

@@ -66,7 +66,7 @@ at-sent = 18
 abbrev pub at-received : ℕ
 at-received = 19
 
--- C-13: "Keep that byte in row byte 32"; and the bytes that the request C-16 uses, 33 and 34
+-- C-13: "Keep that byte in row byte 32"; C-16: "Row bytes 33-34 count them", low byte first
 abbrev pub at-fetched : ℕ
 at-fetched = 32
 
@@ -99,13 +99,17 @@ receiveBytes chaining = at-receive ∷ pick chaining (at-second-receive ∷ at-r
 abbrev pub queueBytes : Bool → List ℕ
 queueBytes chaining = transmitBytes chaining ++ receiveBytes chaining
 
+-- where NAKs are counted: the count, and EXCNAK
+abbrev pub nakBytes : List ℕ
+nakBytes = at-diagnostic ∷ at-nak-low ∷ at-nak-high ∷ []
+
 -- the register bytes that a hardware reset may change: "ID, tentative ID, NID, mask, setup, pointer, mode and diagnostic 0, configuration 18 hex, status 91 hex,
--- bytes 13-15 zero"; C-11: 16-31 too; C-13: byte 32
+-- bytes 13-15 zero"; C-11: 16-31 too; C-13: byte 32; C-16: the count
 abbrev pub resetBytes : Bool → List ℕ
 resetBytes chaining =
-    at-id ∷ at-tentative ∷ at-nid ∷ at-mask ∷ at-setup ∷ at-high ∷ at-low ∷ at-mode ∷ at-diagnostic ∷ at-configuration ∷ at-status ∷ at-long ∷ at-fetched ∷ queueBytes chaining
+    at-id ∷ at-tentative ∷ at-nid ∷ at-mask ∷ at-setup ∷ at-high ∷ at-low ∷ at-mode ∷ at-configuration ∷ at-status ∷ at-long ∷ at-fetched ∷ nakBytes ++ queueBytes chaining
 
--- those that a read may change, of a card with the registers g: "1 gives diagnostic status and then zeroes it"; of 4 with AUTO-INC, the pointer and the fetched byte
+-- those that a read may change, of a card with the registers g: "1 gives diagnostic status and then zeroes it", but EXCNAK; of 4 with AUTO-INC, the pointer and the fetched byte
 abbrev pub readChanges : Regs → ℕ → List ℕ
 readChanges g k = pick (eqb k 1) (at-diagnostic ∷ []) (pick (readFetches g k) (at-high ∷ at-low ∷ at-fetched ∷ []) [])
 
@@ -114,11 +118,11 @@ readChanges g k = pick (eqb k 1) (at-diagnostic ∷ []) (pick (readFetches g k) 
 abbrev pub writeBytes : Bool → Regs → ℕ → List ℕ
 writeBytes chaining g k =
     pick (eqb k 0) (at-mask ∷ [])
-    (pick (eqb k 1) (at-status ∷ at-long ∷ queueBytes chaining)
+    (pick (eqb k 1) (at-status ∷ at-long ∷ nakBytes ++ queueBytes chaining)
     (pick (eqb k 2) (at-mode ∷ [])
     (pick (eqb k 3) (at-high ∷ at-low ∷ at-fetched ∷ [])
     (pick (eqb k 4) (at-high ∷ at-low ∷ [])
-    (pick (eqb k 6) (at-configuration ∷ at-status ∷ at-diagnostic ∷ at-mask ∷ at-long ∷ queueBytes chaining)
+    (pick (eqb k 6) (at-configuration ∷ at-status ∷ at-mask ∷ at-long ∷ nakBytes ++ queueBytes chaining)
     (pick (eqb k 7) (pick (eqb (sub g) 0) (at-tentative ∷ []) (pick (eqb (sub g) 1) (at-id ∷ []) (at-setup ∷ []))) []))))))
 
 abbrev pub writeChanges : Regs → ℕ → List ℕ

@@ -1,4 +1,5 @@
 pub mod Fields
+pub mod Naks
 pub mod Sides
 pub mod Fit
 pub mod Registers
@@ -6,3 +7,4 @@ pub mod Layout
 pub mod Refusals
 pub mod Events
 pub mod Plain
+pub mod Unrefused

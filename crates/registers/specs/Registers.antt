@@ -8,8 +8,9 @@ use Rattle.registers.specs.declared.regs.Regs.{Regs}
 use Rattle.commands.specs.declared.commands.Command.{Command}
 use Rattle.commands.specs.declared.commands.Command.the-variants.{Illegal, Disable, Enable, LongPackets, ClearFlags, Clear}
 use Rattle.bits.specs.Words.{pick, clear, has, raiseIf, lower}
-use Rattle.bits.specs.Flags.{RI, POR, RECON, TMA, TA, TRI, shownRI, shownTA, TTA, RESET, CCHEN, RDDATA, AUTO-INC}
-use Rattle.registers.specs.Fields.{with-id, with-status, with-diagnostic, with-mask, with-configuration, with-setup, with-tentative, with-high, with-low, with-mode, with-transmit, with-receive, with-long, with-fetched}
+use Rattle.bits.specs.Flags.{RI, POR, RECON, TMA, TA, TRI, shownRI, shownTA, TTA, EXCNAK, RESET, CCHEN, RDDATA, AUTO-INC}
+use Rattle.registers.specs.Fields.{with-id, with-status, with-diagnostic, with-mask, with-configuration, with-setup, with-tentative, with-high, with-low, with-mode, with-transmit, with-receive, with-long, with-fetched, with-naks}
+use Rattle.registers.specs.Naks.{naksDropped}
 use Rattle.queues.specs.Queues.{none, cleared, enabled, disabled}
 use Rattle.registers.specs.Sides.{chaining, sideOf, withSide, tta, tri}
 use Rattle.commands.specs.Commands.{commandOf}
@@ -67,12 +68,12 @@ readValue g k =
     (pick (eqb k 6) (g .configuration)
     (pick (eqb k 7) (seventh g) 0))))))
 
--- "1 .. and then zeroes it"; 4 moves the pointer
+-- "1 .. and then zeroes it", but EXCNAK (C-16); 4 moves the pointer
 unfoldable pub afterRead : Regs → ℕ → Regs
-afterRead g k = pick (eqb k 1) (with-diagnostic 0 g) (pick (eqb k 4) (stepped g) g)
+afterRead g k = pick (eqb k 1) (with-diagnostic (bitAnd (g .diagnostic) EXCNAK) g) (pick (eqb k 4) (stepped g) g)
 
 -- "Hardware reset: ID, tentative ID, NID, mask, setup, pointer, mode and diagnostic 0, configuration 18 hex, status 91 hex, bytes 13-15 zero"; C-11: 16-31 too;
--- C-13: "sets it to 0"
+-- C-13: "sets it to 0"; C-16: it "clears bit and count"
 unfoldable pub hardwareReset : Regs
 hardwareReset = record {
   id = 0;
@@ -93,9 +94,9 @@ hardwareReset = record {
 }
 
 -- "Writing RESET = 1: status 91, diagnostic and mask 0, bytes 13-15 zero", 16-31 too. "The new configuration is stored"; C-13: it "keeps" the
--- fetched byte
+-- fetched byte; C-16: it "clears bit and count"
 abbrev pub softwareReset : Regs → Regs
-softwareReset g = with-status 0x91 (with-diagnostic 0 (with-mask 0 (with-transmit none (with-receive none (with-long 0 g)))))
+softwareReset g = with-status 0x91 (with-diagnostic 0 (with-mask 0 (with-transmit none (with-receive none (with-long 0 (with-naks 0 0 g))))))
 
 -- C-11: a change of CCHEN, which finds nothing waiting, drops the ends that are not cleared
 abbrev pub changesChaining : Regs → ℕ → Bool
@@ -107,20 +108,22 @@ rechained g v = pick (changesChaining g v) (with-transmit none (with-receive non
 unfoldable pub configured : Regs → ℕ → Regs
 configured g v = with-configuration v (pick (clear RESET v) (rechained g v) (softwareReset g))
 
--- "The interrupt is active exactly when POR is set, or RI, RECON or TA is set with its mask bit"; C-11: "The mask bits then act on TTA and TRI"
+-- "The interrupt is active exactly when POR is set, or RI, RECON or TA is set with its mask bit"; C-11: "The mask bits then act on TTA and TRI";
+-- C-16: it "includes EXCNAK with mask bit 3"
 unfoldable pub interrupt : Regs → Bool
 interrupt g =
     has POR (g .status) || pick (chaining g) (tri g) (has RI (g .status)) && has RI (g .mask) || has RECON (g .status) && has RECON (g .mask)
-    || pick (chaining g) (tta g) (has TA (g .status)) && has TA (g .mask)
+    || pick (chaining g) (tta g) (has TA (g .status)) && has TA (g .mask) || has EXCNAK (g .diagnostic) && has EXCNAK (g .mask)
 
 -- "01 Disable Transmitter and 02 Disable Receiver: ask a cancel .. Enable Transmit: .. byte 13 to the page. .. Enable Receive: .. the top bit wants broadcasts.
--- .. 05, 0D long packets 0, 1. .. Clear Flags: bit 3 clears POR, bit 4 RECON"; C-11: "Clear Transmit Interrupt (00) or Clear Receive Interrupt (08)"
+-- .. 05, 0D long packets 0, 1. .. Clear Flags: bit 3 clears POR, bit 4 RECON"; C-11: "Clear Transmit Interrupt (00) or Clear Receive Interrupt (08)";
+-- C-16: "Clear Flags with bit 3 .. clears bit and count"
 unfoldable pub commanded : Regs → Command → Regs
 commanded g Illegal = g
 commanded g (Disable w) = withSide w (disabled w (sideOf w g)) g
 commanded g (Enable w entry) = withSide w (enabled w (chaining g) entry (sideOf w g)) g
 commanded g (LongPackets l) = with-long l g
-commanded g (ClearFlags p r) = with-status (lower (pick p POR 0) (lower (pick r RECON 0) (g .status))) g
+commanded g (ClearFlags p r) = with-status (lower (pick p POR 0) (lower (pick r RECON 0) (g .status))) (naksDropped p g)
 commanded g (Clear w) = withSide w (cleared w (sideOf w g)) g
 
 -- a write of the node ID

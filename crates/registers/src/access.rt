@@ -7,6 +7,7 @@ use crate::regs::Regs;
 use bits::choice::choose;
 use bits::flags::AUTO_INC;
 use bits::flags::CCHEN;
+use bits::flags::EXCNAK;
 use bits::flags::POR;
 use bits::flags::RDDATA;
 use bits::flags::RECON;
@@ -119,7 +120,7 @@ impl Regs {
         match register {
             1 => {
                 let mut g = self;
-                g.diagnostic = 0;
+                g.diagnostic = self.diagnostic & EXCNAK;
                 g
             }
             4 => self.stepped(),
@@ -163,6 +164,8 @@ impl Regs {
         g.transmit = Queue::none();
         g.receive = Queue::none();
         g.long = 0;
+        g.later.naklow = 0;
+        g.later.nakhigh = 0;
         g
     }
 
@@ -181,7 +184,7 @@ impl Regs {
             }
             Command::ClearFlags(por, recon) => {
                 g.status = self.status & !choose(recon, RECON, 0) & !choose(por, POR, 0);
-                g
+                g.naks_dropped(por)
             }
             Command::Clear(way) => self.cleared(way),
         }

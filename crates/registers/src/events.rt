@@ -4,6 +4,7 @@ ghost use Rattle.registers.specs.Events.{burst, recovered, heard, answer
 use crate::regs::Regs;
 use bits::choice::choose;
 use bits::flags::BROADCASTS;
+use bits::flags::CANCEL;
 use bits::flags::DUPID;
 use bits::flags::MYRECON;
 use bits::flags::RCVACT;
@@ -79,14 +80,16 @@ impl Regs {
     pub fn cancelled(self) -> Regs
         ensures { λ r. ⌜ r ≡ cancelled self ⌝ }
     {
-        self.relieved(Way::Transmit).relieved(Way::Receive)
+        self.naks_dropped(self.transmit.oldest & CANCEL != 0)
+            .relieved(Way::Transmit)
+            .relieved(Way::Receive)
     }
 
     // The transmit ends, acknowledged or not.
     pub fn sent(self, acknowledged: bool) -> Regs
         ensures { λ r. ⌜ r ≡ sent self acknowledged ⌝ }
     {
-        self.ended(Way::Transmit, acknowledged)
+        self.ended(Way::Transmit, acknowledged).naks_dropped(true)
     }
 
     // An enquiry of this card's own that no packet followed: NAK answered it, or nobody did.
@@ -94,7 +97,7 @@ impl Regs {
         ensures { λ r. ⌜ r ≡ enquired self nak ⌝ }
     {
         if nak {
-            return self.heard(false);
+            return self.nak_counted().heard(false);
         }
         self.sent(false)
     }

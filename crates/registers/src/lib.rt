@@ -2,6 +2,7 @@
 // does to them, and what an access is refused with.
 pub mod access;
 pub mod events;
+mod naks;
 pub mod refusals;
 pub mod regs;
 pub mod sides;

@@ -5,6 +5,7 @@ ghost use Rattle.registers.specs.Fit.{awake, onLine, fit};
 ghost use Rattle.registers.specs.Registers.{hardwareReset, interrupt};
 use bits::choice::either;
 use bits::flags::DIAGNOSTIC;
+use bits::flags::EXCNAK;
 use bits::flags::LOW2;
 use bits::flags::MASK;
 use bits::flags::MODE;
@@ -22,7 +23,7 @@ use queues::queues::Queue;
 // "status 91 hex", after a reset of either kind.
 pub(crate) const AFTER_RESET: u8 = RI | POR | TA;
 
-// Bytes 32 to 34 of a row: the byte that register 4 reads (C-13), and two that are zero until C-16 uses them.
+// Bytes 32 to 34 of a row: the byte that register 4 reads (C-13), and the count of NAKs (C-16).
 pub struct Later {
     pub fetched: u8,
     pub naklow: u8,
@@ -74,10 +75,9 @@ impl Regs {
             & (self.setup & !SETUP == 0)
             & (self.high & !LOW2 == 0)
             & (self.mode & !MODE == 0)
-            & (self.long & !1 == 0)
-            & (self.later.naklow == 0)
-            & (self.later.nakhigh == 0);
+            & (self.long & !1 == 0);
         named
+            & self.naks_fit()
             & self.side(Way::Transmit)
                 .fit(Way::Transmit, chaining, self.long)
             & self.side(Way::Receive)
@@ -121,5 +121,6 @@ impl Regs {
             | received & (self.mask & RI != 0)
             | (self.status & RECON != 0) & (self.mask & RECON != 0)
             | sent & (self.mask & TA != 0)
+            | (self.diagnostic & EXCNAK != 0) & (self.mask & EXCNAK != 0)
     }
 }

@@ -68,6 +68,16 @@ Sane (Does o) = Unit {0}
 Sane (Stamps p) = Unit {0}
 Sane (Carries to broadcast k) = WholePacket k
 
+-- what it asks of the holder's registers: a NAK answers a transmit that waits
+abbrev pub Ready : Regs → Change → Type 0
+Ready g (Reaches e) = Unit {0}
+Ready g (Does Rises) = Unit {0}
+Ready g (Does Cancels) = Unit {0}
+Ready g (Does (Enquires nak)) = transmitting g ≡ true
+Ready g (Does (Ends b a)) = Unit {0}
+Ready g (Stamps p) = Unit {0}
+Ready g (Carries to broadcast k) = Unit {0}
+
 -- a recovery and a rise alone change NIDs
 abbrev pub keepsNid : Change → Bool
 keepsNid (Reaches Recovery) = false
@@ -147,5 +157,6 @@ pub record Turns (start : List ℕ) (p t : ℕ) : Type 0 where
 -- ---- the network that changes of `start` lead to
 pub data Path (start : List ℕ) : List Change → List ℕ → Type 0 where
   begin : Path start [] start
-  more : {l : List Change} {net : List ℕ} → Path start l net → (c : Change) → Allowed start l c → Path start (c ∷ l) (done (holder start) c net)
+  more : {l : List Change} {net : List ℕ} → Path start l net → (c : Change) → Allowed start l c → Ready (regsAt net (holder start)) c
+      → Path start (c ∷ l) (done (holder start) c net)
   turn : {l : List Change} {net : List ℕ} → Path start l net → (p t : ℕ) → Turns start p t → Path start l (turned net p t)

@@ -11,9 +11,9 @@ use Rattle.registers.specs.declared.regs.Regs.{Regs}
 use Rattle.line.specs.declared.passes.Event.{Event}
 use Rattle.line.specs.declared.passes.Event.the-variants.{Recovery, Message, Taken}
 use Rattle.bits.specs.Words.{pick}
-use Rattle.card.specs.Row.{Whole, regsOf, wellFormed}
+use Rattle.card.specs.Row.{Whole, regsOf, putRegs, wellFormed}
 use Rattle.card.specs.Packets.{pageAt, stamped}
-use Rattle.bits.proofs.Words.Bools.{cases}
+use Rattle.bits.proofs.Words.Bools.{cases, pick-of}
 use Rattle.card.proofs.Rows.Sizes.{SameSize, size-same, whole-registers}
 use Rattle.card.proofs.Pages.Places.{page-behind}
 use Rattle.card.proofs.Rows.Bytes.{size-put, regs-put, well-fit}
@@ -29,54 +29,64 @@ use Rattle.table.proofs.Rows.WithRows.{rowAt-setRow, rowAt-setRow-other, setRow
 use Rattle.table.proofs.Shaped.Shapes.{shape-room, shape-row, shape-row-whole}
 use Rattle.table.proofs.Shaped.Kept.{Became}
 use Rattle.table.proofs.Shaped.Became.{Moved, Still, still-same, still-regs, became-rows, shape-moved}
-use Rattle.line.proofs.Change.Registers.{MovedBy, StillBy, row-moved, row-still, still-sent, still-asked, still-heard-sent, still-cancelled, still-message, still-taken, moved-risen, reaches}
+use Rattle.line.proofs.Change.Registers.{FitCard, MovedBy, StillBy, row-moved, row-still, still-sent, still-asked, still-heard-sent, still-cancelled, still-message, still-taken, moved-risen, reaches}
 use Rattle.line.proofs.Change.Stored.{carried-still}
 use Rattle.line.proofs.Steps.Stepped.{held-row}
-use Rattle.line.proofs.Change.Changes.{Own, Rises, Cancels, Enquires, Ends, does, Change, Reaches, Does, Stamps, Carries, done, rowDone, Sane, keepsNid}
+use Rattle.line.proofs.Change.Changes.{Own, Rises, Cancels, Enquires, Ends, does, Change, Reaches, Does, Stamps, Carries, done, rowDone, Sane, Ready, keepsNid}
 
--- ---- a row: as long, kept, with a RAM of bytes; and with its NID, where n says so
+-- ---- a row: kept, with a RAM of bytes; and with its NID, where n says so
 record Fine (r : List ℕ) (n : Bool) (s : List ℕ) : Type 0 where
-  size : SameSize r s
   moved : Moved r s
   nid : n ≡ true → regsOf s .nid ≡ regsOf r .nid
 
 module _ (r : List ℕ) (l : Whole r) (w : wellFormed r ≡ true) where
-  fine-still : (s : List ℕ) → SameSize r s → Still r s → Fine r true s
-  fine-still s e q = record { size = e; moved = q .moved; nid = λ _. q .nid }
+  -- it is as long as it was
+  sized : (h : ℕ) (c : Change) → Sane c → (j : ℕ) → SameSize r (rowDone h c j r)
+  sized h (Reaches e) a j = size-put r _
+  sized h (Does o) a j = pick-of (SameSize r) (eqb j h) (λ _. size-put r _) (λ _. size-same r)
+  sized h (Stamps p) a j = pick-of (SameSize r) (eqb j h) (λ _. size-stamped r (pageAt r p) (page-behind r p)) (λ _. size-same r)
+  sized h (Carries to broadcast k) a j = carried-still k (a .full) (a .count) (a .small) h to broadcast j r l w .0
+
+  fine-still : (s : List ℕ) → Still r s → Fine r true s
+  fine-still s q = record { moved = q .moved; nid = λ _. q .nid }
+
+  fits : Fit (regsOf r)
+  fits = fit-rules (regsOf r) (well-fit r w)
+
+  fine-card : (g : Regs) → FitCard (regsOf r) g → Fine r true (putRegs r g)
+  fine-card g q = fine-still _ (row-still r l w g q)
 
   fine-stays : (f : Regs → Regs) → StillBy f → Fine r true (onRegs f r)
-  fine-stays f q = fine-still _ (size-put r _) (row-still r l w _ (q (regsOf r) (fit-rules (regsOf r) (well-fit r w))))
+  fine-stays f q = fine-card _ (q (regsOf r) fits)
 
   fine-keeps : (f : Regs → Regs) → MovedBy f → Fine r false (onRegs f r)
   fine-keeps f q = record {
-    size = size-put r _;
-    moved = row-moved r l w _ (q (regsOf r) (fit-rules (regsOf r) (well-fit r w)));
+    moved = row-moved r l w _ (q (regsOf r) fits);
     nid = λ e. absurd (false≢true e);
   }
 
   -- the holder's row, or another
-  fine-pick : (n : Bool) (s : List ℕ) (b : Bool) → Fine r n s → Fine r n (pick b s r)
-  fine-pick n s true q = q
-  fine-pick n s false q = let e = still-same r w in record { size = size-same r; moved = e .moved; nid = λ _. refl }
+  fine-pick : (n : Bool) (s : List ℕ) (b : Bool) → (b ≡ true → Fine r n s) → Fine r n (pick b s r)
+  fine-pick n s true q = q refl
+  fine-pick n s false q = let e = still-same r w in record { moved = e .moved; nid = λ _. refl }
 
-  fine : (h : ℕ) (c : Change) → Sane c → (j : ℕ) → Fine r (keepsNid c) (rowDone h c j r)
-  fine h (Reaches Recovery) a j = fine-keeps _ (reaches Recovery j)
-  fine h (Reaches (Message k token)) a j = fine-stays _ (still-message k token j)
-  fine h (Reaches (Taken i t)) a j = fine-stays _ (still-taken i t j)
-  fine h (Does Rises) a j = fine-pick false _ (eqb j h) (fine-keeps _ moved-risen)
-  fine h (Does Cancels) a j = fine-pick true _ (eqb j h) (fine-stays _ still-cancelled)
-  fine h (Does (Enquires nak)) a j = fine-pick true _ (eqb j h) (fine-stays _ (still-asked nak))
-  fine h (Does (Ends true x)) a j = fine-pick true _ (eqb j h) (fine-stays _ (still-heard-sent false x))
-  fine h (Does (Ends false x)) a j = fine-pick true _ (eqb j h) (fine-stays _ (still-sent x))
-  fine h (Stamps p) a j =
+  fine : (h : ℕ) (c : Change) → Sane c → (j : ℕ) → (eqb j h ≡ true → Ready (regsOf r) c) → Fine r (keepsNid c) (rowDone h c j r)
+  fine h (Reaches Recovery) a j q = fine-keeps _ (reaches Recovery j)
+  fine h (Reaches (Message k token)) a j q = fine-stays _ (still-message k token j)
+  fine h (Reaches (Taken i t)) a j q = fine-stays _ (still-taken i t j)
+  fine h (Does Rises) a j q = fine-pick false _ (eqb j h) (λ _. fine-keeps _ moved-risen)
+  fine h (Does Cancels) a j q = fine-pick true _ (eqb j h) (λ _. fine-stays _ still-cancelled)
+  fine h (Does (Enquires nak)) a j q = fine-pick true _ (eqb j h) (λ t. fine-card _ (still-asked nak (regsOf r) fits (q t)))
+  fine h (Does (Ends true x)) a j q = fine-pick true _ (eqb j h) (λ _. fine-stays _ (still-heard-sent false x))
+  fine h (Does (Ends false x)) a j q = fine-pick true _ (eqb j h) (λ _. fine-stays _ (still-sent x))
+  fine h (Stamps p) a j q =
       fine-pick true _ (eqb j h)
-      (let a = pageAt r p in let low = page-behind r p in
-      fine-still _ (size-stamped r a low) (still-regs r _ (well-stamped r l w a low) (regs-stamped r l a low) (λ i b. ram-stamped r b a i)))
-  fine h (Carries to broadcast k) a j =
-      let q = carried-still k (a .full) (a .count) (a .small) h to broadcast j r l w in fine-still _ (q .0) (q .1)
+      (λ _. let a = pageAt r p in let low = page-behind r p in
+      fine-still _ (still-regs r _ (well-stamped r l w a low) (regs-stamped r l a low) (λ i b. ram-stamped r b a i)))
+  fine h (Carries to broadcast k) a j q = fine-still _ (carried-still k (a .full) (a .count) (a .small) h to broadcast j r l w .1)
 
-  pub done-nid : (h : ℕ) (c : Change) → Sane c → (j : ℕ) → keepsNid c ≡ true → regsOf (rowDone h c j r) .nid ≡ regsOf r .nid
-  done-nid h c a j = fine h c a j .nid
+  pub done-nid : (h : ℕ) (c : Change) → Sane c → (j : ℕ) → (eqb j h ≡ true → Ready (regsOf r) c) → keepsNid c ≡ true → regsOf (rowDone h c j r) .nid ≡ regsOf r .nid
+  done-nid h c a j q = fine h c a j q .nid
 
 -- ---- a network: each row is changed so, and all else is as it was
 pub record Made (h : ℕ) (net : List ℕ) (c : Change) : Type 0 where
@@ -84,11 +94,8 @@ pub record Made (h : ℕ) (net : List ℕ) (c : Change) : Type 0 where
   pub row : (j : ℕ) → j < rows net → rowAt (done h c net) j ≡ rowDone h c j (rowAt net j)
 
 module _ (net : List ℕ) (h : ℕ) (s : shape net ≡ true) (l : h < rows net) where
-  fine-row : (c : Change) → Sane c → (j : ℕ) → j < rows net → Fine (rowAt net j) (keepsNid c) (rowDone h c j (rowAt net j))
-  fine-row c a j b = fine (rowAt net j) (shape-row-whole net s j b) (shape-row net s j b) h c a j
-
   pub size-done : (c : Change) → Sane c → (j : ℕ) → j < rows net → SameSize (rowAt net j) (rowDone h c j (rowAt net j))
-  size-done c a j b = fine-row c a j b .size
+  size-done c a j b = sized (rowAt net j) (shape-row-whole net s j b) (shape-row net s j b) h c a j
 
   -- row h is given other bytes
   made-set : (c : Change) → Sane c → (f : List ℕ → List ℕ) → ((j : ℕ) (r : List ℕ) → rowDone h c j r ≡ pick (eqb j h) (f r) r)
@@ -97,7 +104,7 @@ module _ (net : List ℕ) (h : ℕ) (s : shape net ≡ true) (l : h < rows net) 
       let w = shape-room net s in
       let r = f (rowAt net h) in
       let i : rowDone h c h (rowAt net h) ≡ r = is h (rowAt net h) ∙ rw (eq-eqb h h refl) in
-      let e : SameSize (rowAt net h) r = rw i at (fine-row c a h l .size) in record {
+      let e : SameSize (rowAt net h) r = rw i at (size-done c a h l) in record {
         frame = rw new (setRow-frame net (rows net) w h l r e);
         row = λ j b. rw (new, is j (rowAt net j)) (⊎-elim (λ (t : eqb j h ≡ true). rw (t, eqb-true j h t) (rowAt-setRow net (rows net) w h l r e))
             (λ (t : eqb j h ≡ false). rw t (rowAt-setRow-other net (rows net) w h l r e j b (eqb-false j h t))) (cases (eqb j h)));
@@ -106,9 +113,9 @@ module _ (net : List ℕ) (h : ℕ) (s : shape net ≡ true) (l : h < rows net) 
   -- each row is given other bytes
   made-each : (c : Change) → Sane c → done h c net ≡ eachRow (rowDone h c) net (rows net) → Made h net c
   made-each c a new =
-      let keeps : (j : ℕ) → j < rows net → SameSize (rowAt net j) (rowDone h c j (rowAt net j)) = λ j b. fine-row c a j b .size in record {
-        frame = rw new (each-frame net (rows net) (shape-room net s) (rowDone h c) keeps);
-        row = λ j b. rw new (each-row net (rows net) (shape-room net s) (rowDone h c) keeps j b);
+      record {
+        frame = rw new (each-frame net (rows net) (shape-room net s) (rowDone h c) (size-done c a));
+        row = λ j b. rw new (each-row net (rows net) (shape-room net s) (rowDone h c) (size-done c a) j b);
       }
 
   pub made : (c : Change) → Sane c → Made h net c
@@ -118,9 +125,14 @@ module _ (net : List ℕ) (h : ℕ) (s : shape net ≡ true) (l : h < rows net) 
   made (Stamps p) a = made-set (Stamps p) a (λ r. stamped r (pageAt r p)) (λ j r. refl) refl
   made (Carries to broadcast k) a = made-each (Carries to broadcast k) a refl
 
-  module _ (c : Change) (a : Sane c) where
+  module _ (c : Change) (a : Sane c) (q : Ready (regsAt net h) c) where
     pub moved-done : Became Moved net (done h c net)
-    moved-done = let m = made c a in record { frame = m .frame; row = λ j b. rw (m .row j b) (fine-row c a j b .moved) }
+    moved-done =
+        let m = made c a in
+        record {
+          frame = m .frame;
+          row = λ j b. rw (m .row j b) (fine (rowAt net j) (shape-row-whole net s j b) (shape-row net s j b) h c a j (λ t. rw (eqb-true j h t) q) .moved);
+        }
 
     pub shape-done : shape (done h c net) ≡ true
     shape-done = shape-moved s moved-done
@@ -144,10 +156,10 @@ module _ (net : List ℕ) (h : ℕ) (s : shape net ≡ true) (l : h < rows net) 
 -- an event
 module _ (net : List ℕ) (e : Event) (s : shape net ≡ true) where
   pub shape-happened : shape (happened net e) ≡ true
-  shape-happened = shape-done net (holder net) s (held-row net s) (Reaches e) tt
+  shape-happened = shape-done net (holder net) s (held-row net s) (Reaches e) tt tt
 
   pub rows-happened : rows (happened net e) ≡ rows net
-  rows-happened = rows-done net (holder net) s (held-row net s) (Reaches e) tt
+  rows-happened = rows-done net (holder net) s (held-row net s) (Reaches e) tt tt
 
   pub happened-here : (j : ℕ) → j < rows net → regsAt (happened net e) j ≡ happens e j (regsAt net j)
   happened-here j b =

@@ -10,13 +10,12 @@ use Rattle.line.specs.declared.passes.Event.{Event}
 use Rattle.line.specs.declared.passes.Event.the-variants.{Recovery, Message, Taken}
 use Rattle.card.specs.Row.{regsOf, putRegs, wellFormed, Whole}
 use Rattle.registers.specs.Fit.{onLine}
-use Rattle.registers.specs.Events.{heard, risenNid, received, cancelled, sent, enquired}
+use Rattle.registers.specs.Events.{heard, risenNid, received, cancelled, sent, enquired, transmitting}
 use Rattle.bits.proofs.Words.Bools.{pick-of}
 use Rattle.card.proofs.Rows.Bytes.{regs-put}
 use Rattle.registers.proofs.Values.Fits.{Fit}
-use Rattle.registers.proofs.Values.FitEvents.{fit-heard, fit-answered, fit-recovered, fit-risen, fit-received, fit-cancelled, fit-sent}
+use Rattle.registers.proofs.Values.FitEvents.{fit-heard, fit-answered, fit-recovered, fit-risen, fit-received, fit-cancelled, fit-sent, fit-enquired}
 use Rattle.registers.proofs.Values.SameCard as card
-use Rattle.registers.proofs.Values.Ends.{enquired-nak, enquired-unanswered}
 use Rattle.card.proofs.Rows.WellFormed.{well-regs}
 use Rattle.card.proofs.Rows.Rams.{ram-put}
 use Rattle.card.proofs.Rows.Sizes.{whole-registers}
@@ -68,9 +67,9 @@ still-sent a g f = record { fits = fit-sent g f a; kept = card.same-sent g a }
 still-heard : (t : Bool) → StillBy (λ g. heard g t)
 still-heard t g f = record { fits = fit-heard g f t; kept = card.same-heard g t }
 
-pub still-asked : (nak : Bool) → StillBy (λ g. enquired g nak)
-still-asked true g f = rw (enquired-nak g) (still-heard false g f)
-still-asked false g f = rw (enquired-unanswered g) (still-sent false g f)
+-- an enquiry for a packet that waits
+pub still-asked : (nak : Bool) (g : Regs) → Fit g → transmitting g ≡ true → FitCard g (enquired g nak)
+still-asked nak g f t = record { fits = fit-enquired g f nak t; kept = card.same-enquired g nak }
 
 pub still-heard-sent : (t a : Bool) → StillBy (λ g. sent (heard g t) a)
 still-heard-sent t a g f =

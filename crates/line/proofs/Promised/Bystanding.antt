@@ -117,7 +117,7 @@ module _ (net : List ℕ) (s : shape net ≡ true) (b : Rams net) (fault : ℕ) 
         let t = step-by net s b fault in
         rw (← t .stored j l) (by-rows net s b (λ c i r. (u : phase net ≡ TAKEN → i ≡ h → ⊥) → Seen i u (storedBy h c i (regsAt net i)) r)
         (λ i _ u. record { watches = (bystander-same (rowAt net i), refl); moves = only-stays _ (rowAt net i) })
-        (λ k c a i r m w q u. seen i u k r m w (q u) c a) (t .path) j l n)
+        (λ k c a i r _ m w q u. seen i u k r m w (q u) c a) (t .path) j l n)
 
     pub moves-aside : OnlyAt (rowMoves net (stores net fault j) j) (rowAt net j) (rowAt (step net fault .after) j)
     moves-aside = watches .moves

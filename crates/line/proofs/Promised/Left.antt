@@ -9,6 +9,7 @@ use Rattle.bits.specs.Words.{pick, has}
 use Rattle.bits.specs.Flags.{TMA, CCHEN}
 use Rattle.queues.specs.Queues.{uncleared}
 use Rattle.registers.specs.Sides.{chaining, tta}
+use Rattle.registers.specs.Naks.{nakCounted}
 use Rattle.registers.specs.Events.{heard, cancelled, sent, transmitting}
 use Rattle.bits.proofs.Words.Bools.{and-true, and-false, or-false}
 use Rattle.registers.proofs.Values.Fits.{Fit, rules-fit}
@@ -63,27 +64,27 @@ module _ (was : Regs) (f : Fit was) where
       either true x = refl
       either false x = refl
   left-by Malformed e = left-sent after-cancels (fit-cancelled was f) refl refl refl false Malformed refl (refl, refl) (λ b. refl)
-  left-by Broadcast e = left-sent after-cancels (fit-cancelled was f) refl refl refl false Broadcast refl (refl, refl) (λ b. refl)
+  left-by (Broadcast s) e = left-sent after-cancels (fit-cancelled was f) refl refl refl false (Broadcast s) refl (refl, refl) (λ b. refl)
   left-by NoAnswer e =
       rw (enquired-unanswered after-cancels)
       (left-sent after-cancels (fit-cancelled was f) refl refl refl false NoAnswer (sym (enquired-unanswered after-cancels)) (refl, refl) (λ b. refl))
-  left-by Nak e =
+  left-by (Nak r) e =
       let d = waits after-cancels (fit-cancelled was f) e in
-      let i = heard-status after-cancels false in
+      let i = heard-status (nakCounted after-cancels) false in
       let u = cancelled-tta was in
       rw (enquired-nak after-cancels) (record {
         registers = sym (enquired-nak after-cancels);
         ta = rw i (d .0);
         tma = rw i (kept (tta was) (cancelled-tma was) (λ n. d .1 (u ∙ n)));
         page = λ z. absurd (clash z refl);
-        told = ap uncleared (heard-transmit after-cancels false) ∙ u ∙ rw (and-false (chaining was), or-false (tta was));
+        told = ap uncleared (heard-transmit (nakCounted after-cancels) false) ∙ u ∙ rw (and-false (chaining was), or-false (tta was));
       })
     where
       kept : (b : Bool) {x y : Bool} → x ≡ y → (b ≡ false → x ≡ false) → x ≡ pick b y false
       kept true e n = e
       kept false e n = n refl
-  left-by Delivered e = left-heard true Delivered refl (refl, refl) (λ b. refl)
-  left-by Unacknowledged e = left-heard false Unacknowledged refl (refl, refl) (λ b. refl)
+  left-by (Delivered r s) e = left-heard true (Delivered r s) refl (refl, refl) (λ b. refl)
+  left-by (Unacknowledged r s stored) e = left-heard false (Unacknowledged r s stored) refl (refl, refl) (λ b. refl)
 
 -- ---- with CCHEN 0 no second waits and no end is kept
 pub plain-left : (was h : Regs) (o : Outcome) → Fit was → chaining was ≡ false → HolderLeft was h o → PlainLeft was h o

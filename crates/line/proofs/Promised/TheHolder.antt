@@ -41,11 +41,11 @@ use Rattle.line.specs.Outcomes.{sentPage, stores, holderBytes, rowMoves,
 use Rattle.table.proofs.Shaped.Alike.{Rams}
 use Rattle.line.proofs.Change.Made.{row-fits}
 use Rattle.line.proofs.Steps.Stepped.{held-row}
-use Rattle.line.proofs.Change.Changes.{Own, Rises, Cancels, Enquires, Ends, Change, Reaches, Does, Stamps, Carries, does, rowDone, Allowed, Comes, allDone}
+use Rattle.line.proofs.Change.Changes.{Own, Rises, Cancels, Enquires, Ends, Change, Reaches, Does, Stamps, Carries, does, rowDone, Ready, Allowed, Comes, allDone}
 use Rattle.line.proofs.Change.Paths.{by-rows}
 use Rattle.line.proofs.Turn.Storing.{Reached}
 use Rattle.line.proofs.Turn.Says.{SaysHeld}
-use Rattle.line.proofs.Change.Registers.{StillBy, still-cancelled, still-asked, still-heard-sent, still-sent}
+use Rattle.line.proofs.Change.Registers.{FitCard, still-cancelled, still-asked, still-heard-sent, still-sent}
 use Rattle.line.proofs.Promised.Left.{left-by}
 use Rattle.line.proofs.Steps.StepBy.{step-by}
 
@@ -77,23 +77,23 @@ module _ (net : List ℕ) (p : phase net ≡ TAKEN) where
   only-registers x r g l k = only-wider r _ (λ i e. or-left (among registers-moved i) _ (may x i e)) (only-put registers-moved r g l k)
 
   -- a change of its own leaves the card that it was, and the other bytes
-  own-still : (l : List Change) (o : Own) → Allowed net l (Does o) → StillBy (does o)
-  own-still l Rises a = absurd (omega (arith, p, a))
-  own-still l Cancels a = still-cancelled
-  own-still l (Enquires nak) a = still-asked nak
-  own-still l (Ends true x) a = still-heard-sent false x
-  own-still l (Ends false x) a = still-sent x
+  own-still : (l : List Change) (o : Own) → Allowed net l (Does o) → (g : Regs) → Fit g → Ready g (Does o) → FitCard g (does o g)
+  own-still l Rises a g f q = absurd (omega (arith, p, a))
+  own-still l Cancels a g f q = still-cancelled g f
+  own-still l (Enquires nak) a g f q = still-asked nak g f q
+  own-still l (Ends true x) a g f q = still-heard-sent false x g f
+  own-still l (Ends false x) a g f q = still-sent x g f
 
   own-wide : (l : List Change) (o : Own) → Allowed net l (Does o) → (g : Regs) → Keeps (holderBytes true) g (does o g)
   own-wide l Rises a g = absurd (omega (arith, p, a))
-  own-wide l Cancels a g = keeps-cancelled _ g refl
-  own-wide l (Enquires nak) a g = keeps-enquired _ g refl nak
-  own-wide l (Ends true x) a g = keeps-heard-sent _ g refl x
-  own-wide l (Ends false x) a g = keeps-sent _ g refl x
+  own-wide l Cancels a g = keeps-cancelled _ g refl refl
+  own-wide l (Enquires nak) a g = keeps-enquired _ g refl refl nak
+  own-wide l (Ends true x) a g = keeps-heard-sent _ g refl refl x
+  own-wide l (Ends false x) a g = keeps-sent _ g refl refl x
 
-  own-keeps : (l : List Change) (o : Own) → Allowed net l (Does o) → (g : Regs) → Fit g → chaining g ≡ chaining (regsAt net h) → Keeps registers-moved g (does o g)
-  own-keeps l o a g f e =
-      let t = own-still l o a g f in
+  own-keeps : (l : List Change) (o : Own) → Allowed net l (Does o) → (g : Regs) → Fit g → Ready g (Does o) → chaining g ≡ chaining (regsAt net h) → Keeps registers-moved g (does o g)
+  own-keeps l o a g f k e =
+      let t = own-still l o a g f k in
       keeps-chained (chaining (regsAt net h)) holderBytes refl g (does o g)
       (λ c. (unqueued-fit g (e ∙ c) (rules-fit g f), unqueued-fit (does o g) (ap (has CCHEN) (t .kept .configuration) ∙ e ∙ c) (rules-fit (does o g) (t .fits)))) (own-wide l o a g)
 
@@ -120,31 +120,31 @@ module _ (net : List ℕ) (p : phase net ≡ TAKEN) where
         }
     own-event (Taken i t) a = absurd (omega (arith, p, a))
 
-    own-changes : (c : Change) → Allowed net l c → Left x (allDone (c ∷ l)) (rowDone h c h r)
-    own-changes (Reaches e) a = own-event e a
-    own-changes (Does o) a =
+    own-changes : (c : Change) → Allowed net l c → Ready (regsOf r) c → Left x (allDone (c ∷ l)) (rowDone h c h r)
+    own-changes (Reaches e) a k = own-event e a
+    own-changes (Does o) a k =
         let f = fit-rules (regsOf r) (well-fit r w) in
         rw (eq-eqb h h refl) (record {
           registers = regs-put r _ (whole-registers r m) ∙ ap (does o) (q .registers);
-          chains = ap chaining (regs-put r _ (whole-registers r m)) ∙ ap (has CCHEN) (own-still l o a (regsOf r) f .kept .configuration) ∙ q .chains;
+          chains = ap chaining (regs-put r _ (whole-registers r m)) ∙ ap (has CCHEN) (own-still l o a (regsOf r) f k .kept .configuration) ∙ q .chains;
           size = size-then (q .size) (size-put r _);
-          moves = then _ (only-registers x r _ (whole-registers r m) (own-keeps l o a (regsOf r) f (q .chains)));
+          moves = then _ (only-registers x r _ (whole-registers r m) (own-keeps l o a (regsOf r) f k (q .chains)));
         })
-    own-changes (Stamps y) a =
+    own-changes (Stamps y) a k =
         rw (eq-eqb h h refl) (record {
           registers = regs-stamped r m (pageAt r y) (page-behind r y) ∙ q .registers;
           chains = ap chaining (regs-stamped r m (pageAt r y) (page-behind r y)) ∙ q .chains;
           size = size-then (q .size) (size-stamped r (pageAt r y) (page-behind r y));
           moves = then _ (only-wider r _ (λ i e. rw (place-same (rowAt net h) r (q .size) y, a .1) (or-right (among registers-moved i) _ (may x i e))) (only-stamped r (pageAt r y)));
         })
-    own-changes (Carries to broadcast k) a = rw (not-own h to broadcast k r (a .other)) (record { registers = q .registers; chains = q .chains; size = q .size; moves = q .moves })
+    own-changes (Carries to broadcast k) a _ = rw (not-own h to broadcast k r (a .other)) (record { registers = q .registers; chains = q .chains; size = q .size; moves = q .moves })
 
   -- ---- through a step
   module _ (s : shape net ≡ true) (b : Rams net) (fault : ℕ) where
     own-step : (x : Bool) → Left x (allDone (step-by net s b fault .changes)) (rowAt (step net fault .after) h)
     own-step x =
         by-rows net s b (λ l j r. j ≡ h → Left x (allDone l) r) (λ j _ e. rw e (record { registers = refl; chains = refl; size = size-same (rowAt net h); moves = only-stays _ (rowAt net h) }))
-        (λ l c a j r m w q e. rw e (own-changes x l r m w (q e) c a)) (step-by net s b fault .path) h (held-row net s) refl
+        (λ l c a j r k m w q e. rw e (own-changes x l r m w (q e) c a (k (eq-eqb j h e)))) (step-by net s b fault .path) h (held-row net s) refl
 
     pub moves-holder : OnlyAt (rowMoves net (stores net fault h) h) (rowAt net h) (rowAt (step net fault .after) h)
     moves-holder = own-step (stores net fault h) .moves

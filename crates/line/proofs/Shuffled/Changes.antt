@@ -11,7 +11,7 @@ use Rattle.card.proofs.Rows.Bytes.{size-put}
 use Rattle.card.proofs.Pages.Places.{page-behind}
 use Rattle.card.proofs.Pages.Stored.{size-stamped}
 use Rattle.table.specs.Rows.{rowStart, rowAt, eachRow}
-use Rattle.table.specs.Network.{rows, onRegs}
+use Rattle.table.specs.Network.{rows, onRegs, regsAt}
 use Rattle.table.specs.Shuffle.{Shuffle, shuffled}
 use Rattle.table.proofs.Shaped.Alike.{Good, good-alike, alike-moved}
 use Rattle.table.proofs.Shuffled.Renaming.{to-from}
@@ -20,12 +20,12 @@ use Rattle.table.proofs.Shuffled.Shapes.{ends-at}
 use Rattle.line.specs.declared.passes.Event.{Event}
 use Rattle.line.specs.declared.passes.Event.the-variants.{Recovery, Message, Taken}
 use Rattle.line.specs.Traffic.{onRow, happened, carried}
-use Rattle.line.proofs.Change.Changes.{does, Change, Reaches, Does, Stamps, Carries, done, rowDone, Sane}
+use Rattle.line.proofs.Change.Changes.{does, Change, Reaches, Does, Stamps, Carries, done, rowDone, Sane, Ready}
 use Rattle.line.proofs.Change.Made.{size-done, moved-done}
 
 -- a change keeps a network good
-pub good-done : {n : ℕ} (net : List ℕ) → Good n net → (h : ℕ) → h < n → (c : Change) → Sane c → Good n (done h c net)
-good-done net g h l c a = good-alike g (alike-moved net (g .fits) (g .rams) _ (moved-done net h (g .fits) (omega (arith, g .count)) c a))
+pub good-done : {n : ℕ} (net : List ℕ) → Good n net → (h : ℕ) → h < n → (c : Change) → Sane c → Ready (regsAt net h) c → Good n (done h c net)
+good-done net g h l c a r = good-alike g (alike-moved net (g .fits) (g .rams) _ (moved-done net h (g .fits) (omega (arith, g .count)) c a r))
 
 module _ {n : ℕ} (q : Shuffle n) where
   -- ---- the rows that a change names, renamed

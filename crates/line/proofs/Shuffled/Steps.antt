@@ -59,7 +59,7 @@ module _ {n : ℕ} (q : Shuffle n) where
     lost-shuffled =
         let m = happened net Recovery in
         let e : happened (shuffled q net) Recovery ≡ shuffled q m = done-shuffled q net g (holder net) low (Reaches Recovery) tt in
-        let u = held-by m (good-done net g (holder net) low (Reaches Recovery) tt) PASS (highest net) refl in
+        let u = held-by m (good-done net g (holder net) low (Reaches Recovery) tt tt) PASS (highest net) refl in
         rw (highest-shuffled, e, u, count, g .count, top-shuffled q net (g .fits) (g .count))
         (pick-each Same (eqb (topId net n) 0) (λ _. refl) (λ _. refl))
 
@@ -83,7 +83,7 @@ module _ {n : ℕ} (q : Shuffle n) where
       heard token = done-shuffled q net g (holder net) low (Reaches (Message (holder net) token)) tt
 
       good : (token : Bool) → Good n (happened net (Message (holder net) token))
-      good token = good-done net g (holder net) low (Reaches (Message (holder net) token)) tt
+      good token = good-done net g (holder net) low (Reaches (Message (holder net) token)) tt tt
 
       pass-shuffled : (fault : ℕ) → Same (passTurn net fault) (passTurn (shuffled q net) fault)
       unfolding passTurn
@@ -95,7 +95,7 @@ module _ {n : ℕ} (q : Shuffle n) where
           (pick-each Same (destroyed fault)
           (λ _. rw (shuffled-turned q x (ends-at q x (good false .fits) (good false .count)) LOST 0))
           (λ _. pick-each Same (ltb (taker net) (rows net))
-          (λ _. rw (done-shuffled q y (good true) (holder net) low c tt, held-by _ (good-done y (good true) (holder net) low c tt) TAKEN (taker net) refl))
+          (λ _. rw (done-shuffled q y (good true) (holder net) low c tt, held-by _ (good-done y (good true) (holder net) low c tt tt) TAKEN (taker net) refl))
           (λ _. rw (done-shuffled q y (good true) (holder net) low (Does Rises) tt))))
 
       -- ---- TAKEN

@@ -6,7 +6,7 @@ use mathlib.Core.List.{List}
 use Prim.Native.Nat.{ℕ, _<_}
 use native.Mathlib.Omega.{arith}
 use lib.Dec.{eqb, ltb}
-use Rattle.bits.proofs.Words.Bools.{pick-each}
+use Rattle.bits.proofs.Words.Bools.{pick-both, pick-each}
 use Rattle.registers.specs.Events.{cancelled, transmitting, receiving, transmitPage}
 use Rattle.registers.proofs.Values.Ends.{transmit-page-small}
 use Rattle.card.specs.Packets.{malformed, pageShape, destination, packetAt}
@@ -20,6 +20,7 @@ use Rattle.table.proofs.Shuffled.Shapes.{node-shuffled}
 use Rattle.line.specs.declared.passes.Event.the-variants.{Message}
 use Rattle.line.specs.declared.traffic.Outcome.{Outcome}
 use Rattle.line.specs.Traffic.{Turn, onRow, happened, damaged, stampedNet, wentOut, broadcastTurn, acknowledged, packetTurn, asked, enquiryTurn, tryTurn, takenTurn}
+use Rattle.line.specs.Step.{outcomeTo}
 use Rattle.line.proofs.Change.Changes.{Own, Cancels, Enquires, Ends, does, Reaches, Does, Stamps, Carries}
 use Rattle.line.proofs.Turn.Sends.{whole-packet, out-alike}
 use Rattle.line.proofs.Shuffled.Changes.{good-done, good-ends, good-rows, done-shuffled}
@@ -29,9 +30,9 @@ module _ {n : ℕ} (q : Shuffle n) where
   abbrev pub turnTo : {A : Type 0} → (A → A) → Turn A → Turn A
   turnTo f t = record { answer = f (t .answer); after = shuffled q (t .after) }
 
-  -- the turn u is t so; an outcome names no row
+  -- the turn u is t so
   abbrev Same : Turn Outcome → Turn Outcome → Type 0
-  Same t u = u ≡ turnTo (λ o. o) t
+  Same t u = u ≡ turnTo (outcomeTo (q .to)) t
 
   module _ (h : ℕ) (l : h < n) where
     own : (net : List ℕ) → Good n net → (o : Own) → onRow (shuffled q net) (q .to h) (does o) ≡ shuffled q (onRow net h (does o))
@@ -46,7 +47,7 @@ module _ {n : ℕ} (q : Shuffle n) where
 
       asked-shuffled : (nak : Bool) → asked (shuffled q net) (q .to h) nak ≡ shuffled q (asked net h nak)
       unfolding asked
-      asked-shuffled nak = rw (heard net g) (own (happened net (Message h false)) (good-done net g h l (Reaches (Message h false)) tt) (Enquires nak))
+      asked-shuffled nak = rw (heard net g) (own (happened net (Message h false)) (good-done net g h l (Reaches (Message h false)) tt tt) (Enquires nak))
 
       module _ (p fault : ℕ) (small : p < 4) where
         -- a packet goes
@@ -54,9 +55,9 @@ module _ {n : ℕ} (q : Shuffle n) where
         unfolding wentOut
         went-shuffled to broadcast =
             let x = stampedNet net h p in
-            let gx = good-done net g h l (Stamps p) tt in
+            let gx = good-done net g h l (Stamps p) tt tt in
             let y = happened x (Message h false) in
-            let gy = good-done x gx h l (Reaches (Message h false)) tt in
+            let gy = good-done x gx h l (Reaches (Message h false)) tt tt in
             let k = packetAt (rowAt x h) p in
             rw (done-shuffled q net g h l (Stamps p) tt, heard x gx, shuffled-at q x (good-ends q x gx h l) h)
             (pick-each (λ (a b : List ℕ). b ≡ shuffled q a) (damaged fault) (λ _. refl)
@@ -69,11 +70,14 @@ module _ {n : ℕ} (q : Shuffle n) where
         unfolding broadcastTurn
         broadcast-shuffled =
             let e : rows (shuffled q net) ≡ q .to (rows net) = good-rows q net g h l ∙ sym (ap (q .to) (g .count) ∙ q .past n (omega arith)) in
-            rw (e, went-shuffled (rows net) true, own _ (good-went (rows net) true) (Ends false false))
+            rw (row h, e, went-shuffled (rows net) true, own _ (good-went (rows net) true) (Ends false false))
 
         packet-shuffled : (t : ℕ) → Same (packetTurn net h p fault t) (packetTurn (shuffled q net) (q .to h) p fault (q .to t))
         unfolding packetTurn
-        packet-shuffled t = rw (row h, row t, went-shuffled t false, own _ (good-went t false) (Ends true (acknowledged net h p fault t)))
+        packet-shuffled t =
+            let x : List ℕ = shuffled q (onRow (wentOut net h p fault t false) h (does (Ends true (acknowledged net h p fault t)))) in
+            rw (row h, row t, went-shuffled t false, own _ (good-went t false) (Ends true (acknowledged net h p fault t)))
+            (pick-both (λ (o u : Outcome). record { answer = o; after = x } ≡ record { answer = outcomeTo (q .to) u; after = x }) (acknowledged net h p fault t) refl refl)
 
         enquiry-shuffled : (t : ℕ) → Same (enquiryTurn net h p fault t) (enquiryTurn (shuffled q net) (q .to h) p fault (q .to t))
         unfolding enquiryTurn
@@ -92,6 +96,6 @@ module _ {n : ℕ} (q : Shuffle n) where
     unfolding takenTurn
     taken-shuffled net g fault =
         let m = onRow net h cancelled in
-        let gm = good-done net g h l (Does Cancels) tt in
+        let gm = good-done net g h l (Does Cancels) tt tt in
         rw (own net g Cancels, row m gm h)
         (pick-each Same (transmitting (regsAt m h)) (λ _. try-shuffled m gm (transmitPage (regsAt m h)) fault (transmit-page-small (regsAt m h))) (λ _. refl))

@@ -60,7 +60,7 @@ module _ (net : List ℕ) (s : shape net ≡ true) (b : Rams net) (fault : ℕ) 
         pick-of Steps (eqb (topId net (rows net)) 0) (λ _. record { changes = _; path = begin; says = λ g. refl; stored = n })
         (λ t. record {
           changes = _;
-          path = turn (more begin (Reaches Recovery) p) PASS _ (holds net PASS (highest net) (omega arith) (omega arith) (highest-held net (eqb-false _ _ t)));
+          path = turn (more begin (Reaches Recovery) p tt) PASS _ (holds net PASS (highest net) (omega arith) (omega arith) (highest-held net (eqb-false _ _ t)));
           says = λ g. refl;
           stored = n;
         })
@@ -71,18 +71,18 @@ module _ (net : List ℕ) (s : shape net ≡ true) (b : Rams net) (fault : ℕ) 
         let h = holder net in
         let n = unstored (λ e. omega (arith, p, e)) in
         let sent : phase net ≡ LOST → ⊥ = λ e. omega (arith, p, e) in
-        let c = more begin (Reaches (Message h true)) (refl, sent) in
+        let c = more begin (Reaches (Message h true)) (refl, sent) tt in
         pick-of Steps (destroyed fault)
-        (λ _. record { changes = _; path = turn (more begin (Reaches (Message h false)) (refl, sent)) LOST 0 (lost net); says = λ g. refl; stored = n })
+        (λ _. record { changes = _; path = turn (more begin (Reaches (Message h false)) (refl, sent) tt) LOST 0 (lost net); says = λ g. refl; stored = n })
         (λ _. pick-of Steps (ltb (taker net) (rows net))
         (λ t. record {
           changes = _;
-          path = turn (more c (Reaches (Taken (invited net) (taker net))) p) TAKEN _
+          path = turn (more c (Reaches (Taken (invited net) (taker net))) p tt) TAKEN _
               (holds net TAKEN (taker net) (omega arith) (omega arith) (taker-held net (ltb-true (taker net) (rows net) t)));
           says = λ g. refl;
           stored = n;
         })
-        (λ _. record { changes = _; path = more c (Does Rises) p; says = λ g. refl; stored = n }))
+        (λ _. record { changes = _; path = more c (Does Rises) p tt; says = λ g. refl; stored = n }))
 
     turn-by : Steps (stepTurn net fault)
     unfolding stepTurn

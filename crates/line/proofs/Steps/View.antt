@@ -59,7 +59,7 @@ module _ (net : List ℕ) (s : shape net ≡ true) (b : Rams net) where
 
   -- ---- "PASS": every other row hears the invitation
   invites : phase net ≡ PASS → Path net (Reaches (Message (holder net) true) ∷ []) (invitation net)
-  invites p = more begin (Reaches (Message (holder net) true)) (refl, λ e. omega (arith, p, e))
+  invites p = more begin (Reaches (Message (holder net) true)) (refl, λ e. omega (arith, p, e)) tt
 
   pub record AfterTaker : Type 0 where
     pub answer : step net 0 .answer ≡ Passed (taker net)
@@ -73,7 +73,7 @@ module _ (net : List ℕ) (s : shape net ≡ true) (b : Rams net) where
       let e = taker-is net s p lt in
       let t = taker net in
       let m = happened (invitation net) (Taken (invited net) t) in
-      let q = more (invites p) (Reaches (Taken (invited net) t)) p in
+      let q = more (invites p) (Reaches (Taken (invited net) t)) p tt in
       let l = bounds m (sound net s b q .fits) .header in
       record {
         answer = ap (λ (t : Turn Answer). t .answer) e;

@@ -2,11 +2,11 @@
 -- Assumes nothing.
 use mathlib.Core.Path.{_≡_, refl, ap}
 use mathlib.Core.Bool.{true, false}
-use mathlib.Core.List.{List, _∷_}
+use mathlib.Core.List.{List, _∷_, _++_}
 use Prim.Native.Nat.{ℕ, _≤_, _<_}
 use native.Mathlib.Omega.{arith}
 use lib.ListN.{getD}
-use Rattle.registers.specs.Layout.{at-status, queueBytes}
+use Rattle.registers.specs.Layout.{at-status, queueBytes, nakBytes}
 use Rattle.registers.specs.Events.{cancelled, transmitPage}
 use Rattle.card.specs.Row.{registerBytes, regsOf, putRegs}
 use Rattle.card.specs.Packets.{malformed, pageShape, destination, packetAt, stamped, pageAt}
@@ -60,7 +60,7 @@ module _ (net : List ℕ) (s : shape net ≡ true) where
   ram = rw there (put-ram row (cancelled (regsOf row)))
 
   long : regsOf (rowAt m h) .long ≡ regsOf row .long
-  long = rw here (keeps-cancelled (at-status ∷ queueBytes true) (regsOf row) refl .kept 13 refl)
+  long = rw here (keeps-cancelled (at-status ∷ nakBytes ++ queueBytes true) (regsOf row) refl refl .kept 13 refl)
 
   pub same-page : page ≡ sentPage net
   same-page = ap transmitPage here

@@ -5,6 +5,7 @@ use mathlib.Core.Bool.{Bool, true, false}
 use mathlib.Core.List.{List}
 use Prim.Native.Nat.{ℕ, _<_}
 use Rattle.registers.specs.declared.regs.Regs.{Regs}
+use Rattle.card.specs.declared.packets.Shape.{Shape}
 use Rattle.line.specs.declared.traffic.Outcome.{Outcome}
 use Rattle.line.specs.declared.traffic.Outcome.the-variants.{Nothing, Malformed, Broadcast, NoAnswer, Nak, Delivered, Unacknowledged}
 use Rattle.bits.specs.Words.{pick}
@@ -26,11 +27,11 @@ pub record By {A : Type 0} (Says : (Regs → Regs) → A → Type 0) (net : List
 abbrev pub tried : Outcome → Bool
 tried Nothing = false
 tried Malformed = true
-tried Broadcast = true
+tried (Broadcast s) = true
 tried NoAnswer = true
-tried Nak = true
-tried Delivered = true
-tried Unacknowledged = true
+tried (Nak r) = true
+tried (Delivered r s) = true
+tried (Unacknowledged r s stored) = true
 
 -- an outcome: what happened to the holder's registers, whether a packet was tried, and who stored it
 pub record SaysHeld (net : List ℕ) (fault : ℕ) (f : Regs → Regs) (o : Outcome) : Type 0 where
@@ -38,10 +39,11 @@ pub record SaysHeld (net : List ℕ) (fault : ℕ) (f : Regs → Regs) (o : Outc
   pub waits : transmitting (cancelled (regsAt net (holder net))) ≡ tried o
   pub reached : Reached net fault o
 
-pub packet-says : (a : Bool) (g : Regs) → does (Ends true a) (cancelled g) ≡ holderAfter (pick a Delivered Unacknowledged) g
-packet-says true g = refl
-packet-says false g = refl
+module _ (r : ℕ) (s : Shape) (stored : Bool) where
+  pub packet-says : (a : Bool) (g : Regs) → does (Ends true a) (cancelled g) ≡ holderAfter (pick a (Delivered r s) (Unacknowledged r s stored)) g
+  packet-says true g = refl
+  packet-says false g = refl
 
-pub packet-tried : (a : Bool) → tried (pick a Delivered Unacknowledged) ≡ true
-packet-tried true = refl
-packet-tried false = refl
+  pub packet-tried : (a : Bool) → tried (pick a (Delivered r s) (Unacknowledged r s stored)) ≡ true
+  packet-tried true = refl
+  packet-tried false = refl

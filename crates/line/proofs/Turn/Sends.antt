@@ -50,10 +50,10 @@ module _ (net : List ℕ) (s : shape net ≡ true) (h p : ℕ) (l : h < rows net
   stamped-is a e q m d = row-done net h a e q (λ r. stamped r (pageAt r p)) m d
 
   shape-stamped : shape (stampedNet net h p) ≡ true
-  shape-stamped = shape-done net h s l (Stamps p) tt
+  shape-stamped = shape-done net h s l (Stamps p) tt tt
 
   rows-stamped : rows (stampedNet net h p) ≡ rows net
-  rows-stamped = rows-done net h s l (Stamps p) tt
+  rows-stamped = rows-done net h s l (Stamps p) tt tt
 
   pub stamped-bounds : (x : List ℕ) → x ≡ stampedNet net h p → Bounds net x
   stamped-bounds x e = rw e (new-bounds net (stampedNet net h p) shape-stamped rows-stamped)
@@ -88,12 +88,12 @@ module _ (net : List ℕ) (s : shape net ≡ true) (h p : ℕ) (l : h < rows net
   -- the network that it leaves: the rows of `net`, still well formed
   module _ (b : Rams net) (q : p < 4) where
     stamped-alike : Alike net (stampedNet net h p)
-    stamped-alike = alike-moved net s b _ (moved-done net h s l (Stamps p) tt)
+    stamped-alike = alike-moved net s b _ (moved-done net h s l (Stamps p) tt tt)
 
     went-alike : Alike net went
     went-alike =
         let a = stamped-alike in
-        alike-then a (alike-moved (stampedNet net h p) (a .fits) (a .rams) went (moved-done (stampedNet net h p) h (a .fits) (omega (arith, a .count)) (Reaches (Message h false)) tt))
+        alike-then a (alike-moved (stampedNet net h p) (a .fits) (a .rams) went (moved-done (stampedNet net h p) h (a .fits) (omega (arith, a .count)) (Reaches (Message h false)) tt tt))
 
     pub out-alike : (fault to : ℕ) (b : Bool) → Alike net (wentOut net h p fault to b)
     unfolding wentOut
@@ -102,7 +102,7 @@ module _ (net : List ℕ) (s : shape net ≡ true) (h p : ℕ) (l : h < rows net
         let c = went-alike in
         let whole = whole-packet (stampedNet net h p) (a .fits) (a .rams) h (omega (arith, a .count)) p q in
         pick-of (Alike net) (damaged fault) (λ _. c)
-        (λ _. alike-then c (alike-moved went (c .fits) (c .rams) _ (moved-done went h (c .fits) (omega (arith, c .count)) (Carries to b (packetAt (rowAt (stampedNet net h p) h) p)) whole)))
+        (λ _. alike-then c (alike-moved went (c .fits) (c .rams) _ (moved-done went h (c .fits) (omega (arith, c .count)) (Carries to b (packetAt (rowAt (stampedNet net h p) h) p)) whole tt)))
 
 pub went-bounds : (net : List ℕ) → shape net ≡ true → Bytes net → (h p : ℕ) → h < rows net → p < 4 → (fault to : ℕ) (b : Bool) (x : List ℕ) → x ≡ wentOut net h p fault to b → Bounds net x
 went-bounds net s y h p l q fault to b x e =

@@ -1,6 +1,6 @@
 -- Who stores the packet that the holder tries.
 -- Assumes nothing.
-use mathlib.Core.Path.{_≡_, refl, sym, ap}
+use mathlib.Core.Path.{_≡_, refl, sym, _∙_, ap}
 use mathlib.Core.Bool.{Bool, true, false, not, _&&_}
 use mathlib.Core.List.{List}
 use mathlib.Core.Logic.{⊎-elim}
@@ -19,16 +19,23 @@ use Rattle.line.specs.Traffic.{damaged}
 use Rattle.line.specs.Step.{stepNumber}
 use Rattle.line.specs.Outcomes.{sentShape, sentTo, addressee, stores}
 
--- who stores the packet of an outcome: of Delivered, the row that the enquiry found and no other; of a broadcast, the rows that take it
+-- row r is the one that the enquiry found
+pub record Found (net : List ℕ) (r : ℕ) : Type 0 where
+  pub asked : sentTo net ≡ 0 → ⊥
+  pub is : addressee net ≡ r
+  pub there : r < rows net
+
+-- whom an outcome names, and who stores the packet: of Delivered, the row that the enquiry found and no other; of a broadcast, the rows that take it
 abbrev pub Reached : List ℕ → ℕ → Outcome → Type 0
 Reached net fault Nothing = Unit {0}
 Reached net fault Malformed = Unit {0}
-Reached net fault Broadcast =
-    (j : ℕ) → j < rows net → stores net fault j ≡ (not (damaged fault) && (not (eqb j (holder net)) && takesBroadcasts (regsAt net j) && storable (regsAt net j) (sentShape net)))
+Reached net fault (Broadcast s) =
+    (s ≡ sentShape net)
+    × ((j : ℕ) → j < rows net → stores net fault j ≡ (not (damaged fault) && (not (eqb j (holder net)) && takesBroadcasts (regsAt net j) && storable (regsAt net j) (sentShape net))))
 Reached net fault NoAnswer = Unit {0}
-Reached net fault Nak = Unit {0}
-Reached net fault Delivered = (sentTo net ≡ 0 → ⊥) × ((addressee net < rows net) × ((j : ℕ) → stores net fault j ≡ eqb j (addressee net)))
-Reached net fault Unacknowledged = Unit {0}
+Reached net fault (Nak r) = Found net r × (receiving (regsAt net r) ≡ false)
+Reached net fault (Delivered r s) = Found net r × ((s ≡ sentShape net) × ((j : ℕ) → stores net fault j ≡ eqb j r))
+Reached net fault (Unacknowledged r s stored) = Found net r × ((s ≡ sentShape net) × (stores net fault r ≡ stored))
 
 -- a row that takes a broadcast has its receiver on
 hears : (away takes on can : Bool) → (takes ≡ true → on ≡ true) → (away && takes && (on && can)) ≡ (away && takes && can)
@@ -40,7 +47,8 @@ hears true true on can r = rw (r refl)
 module _ (net : List ℕ) (fault : ℕ) (z : eqb (stepNumber net fault) 0 ≡ true) (p : phase net ≡ TAKEN) (w : transmitting (cancelled (regsAt net (holder net))) ≡ true)
     (f : malformed (sentShape net) ≡ false) where
   -- a broadcast: the rows that take it
-  pub cast : eqb (sentTo net) 0 ≡ true → Reached net fault Broadcast
+  pub cast : eqb (sentTo net) 0 ≡ true → (j : ℕ) → j < rows net
+      → stores net fault j ≡ (not (damaged fault) && (not (eqb j (holder net)) && takesBroadcasts (regsAt net j) && storable (regsAt net j) (sentShape net)))
   unfolding stores
   cast d j l =
       let g = regsAt net j in
@@ -48,17 +56,22 @@ module _ (net : List ℕ) (fault : ℕ) (z : eqb (stepNumber net fault) 0 ≡ tr
       (ap (not (damaged fault) &&_) (hears (not (eqb j (holder net))) (takesBroadcasts g) (receiving g) (storable g (sentShape net)) (takes-receives g)))
 
   module _ (d : eqb (sentTo net) 0 ≡ false) (to : ℕ) (i : addressee net ≡ to) where
-    -- the row that was found, and no other
-    pub one : to < rows net → receiving (regsAt net to) ≡ true → not (damaged fault) ≡ true → storable (regsAt net to) (sentShape net) ≡ true → Reached net fault Delivered
+    pub found-at : to < rows net → Found net to
+    found-at l = record { asked = eqb-false (sentTo net) 0 d; is = i; there = l }
+
+    -- the row that was found stores it where it can, and no other row does
+    pub stored-there : receiving (regsAt net to) ≡ true → stores net fault to ≡ (not (damaged fault) && storable (regsAt net to) (sentShape net))
     unfolding stores
-    one l r a v = (
-      eqb-false (sentTo net) 0 d,
-      (
-        rw i l,
-        λ j. rw (i, z, p, w, f, d, a, or-false (eqb j to))
-            (⊎-elim (λ (e : eqb j to ≡ true). rw (eqb-true j to e, eq-eqb to to refl, r, v)) (λ (e : eqb j to ≡ false). rw e) (cases (eqb j to))),
-      ),
-    )
+    stored-there r = rw (i, z, p, w, f, d, eq-eqb to to refl, r)
+
+    pub stored-alone : (j : ℕ) → (j ≡ to → ⊥) → stores net fault j ≡ false
+    unfolding stores
+    stored-alone j n = rw (i, z, p, w, f, d, ne-eqb j to n) (and-false (not (damaged fault)))
+
+    pub one : receiving (regsAt net to) ≡ true → (not (damaged fault) && storable (regsAt net to) (sentShape net)) ≡ true → (j : ℕ) → stores net fault j ≡ eqb j to
+    one r a j =
+        ⊎-elim (λ (e : eqb j to ≡ true). rw (eqb-true j to e, eq-eqb to to refl) (stored-there r ∙ a)) (λ (e : eqb j to ≡ false). rw e (stored-alone j (eqb-false j to e)))
+        (cases (eqb j to))
 
     -- nobody, where that row's receiver is not on
     pub unheard : ((j : ℕ) → j < rows net → j ≡ to → receiving (regsAt net j) ≡ false) → (j : ℕ) → j < rows net → false ≡ stores net fault j

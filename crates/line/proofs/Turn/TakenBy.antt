@@ -6,7 +6,7 @@ use mathlib.Core.List.{List, [], _∷_}
 use Prim.Native.Nat.{ℕ, _<_}
 use native.Mathlib.Omega.{arith}
 use lib.Dec.{eqb, ltb}
-use borrow.Author.Tests.{ltb-true, ltb-false}
+use borrow.Author.Tests.{eq-eqb, ltb-true, ltb-false}
 use Rattle.registers.specs.declared.regs.Regs.{Regs}
 use Rattle.card.specs.declared.packets.Shape.{Shape}
 use Rattle.line.specs.declared.passes.Event.the-variants.{Message}
@@ -16,22 +16,22 @@ use Rattle.bits.specs.Words.{pick}
 use Rattle.registers.specs.Events.{cancelled, transmitting, receiving, transmitPage}
 use Rattle.card.specs.Row.{regsOf}
 use Rattle.card.specs.Packets.{malformed, pageShape, destination, packetAt, storable}
-use Rattle.bits.proofs.Words.Bools.{and-left, and-right, or-false, pick-of}
+use Rattle.bits.proofs.Words.Bools.{and-left, or-false, pick-of}
 use Rattle.registers.proofs.Values.Ends.{transmit-page-small}
 use Rattle.table.specs.Rows.{rowAt}
 use Rattle.table.specs.Network.{rows, phase, holder, TAKEN, regsAt, nodeOf, shape}
-use Rattle.line.specs.Traffic.{Turn, onRow, happened, damaged, ackLost, takes, stampedNet, wentOut, broadcastTurn, acknowledged, packetTurn, asked, enquiryTurn, tryTurn, takenTurn}
+use Rattle.line.specs.Traffic.{Turn, onRow, happened, damaged, ackLost, takes, stampedNet, wentOut, broadcastTurn, arrives, acknowledged, packetTurn, asked, enquiryTurn, tryTurn, takenTurn}
 use Rattle.line.specs.Step.{stepNumber}
 use Rattle.line.specs.Outcomes.{sentShape, sentTo, addressee, stores, holderAfter}
 use Rattle.table.proofs.Online.Nodes.{nodeOf-found}
 use Rattle.table.proofs.Online.SameNodes.{alike-node-of}
 use Rattle.table.proofs.Shaped.Alike.{Rams, Alike}
 use Rattle.line.proofs.Steps.Stepped.{held-row}
-use Rattle.line.proofs.Change.Changes.{Own, Cancels, Enquires, Ends, does, Change, Reaches, Does, Stamps, Carries, Tries, Allowed, Path, begin, more, allDone, storedBy}
-use Rattle.line.proofs.Change.Made.{own-here, own-there}
+use Rattle.line.proofs.Change.Changes.{Own, Cancels, Enquires, Ends, does, Change, Reaches, Does, Stamps, Carries, Tries, Ready, Allowed, Path, begin, more, allDone, storedBy}
+use Rattle.line.proofs.Change.Made.{own-here, own-there, happened-here}
 use Rattle.line.proofs.Change.Paths.{sound}
 use Rattle.line.proofs.Turn.Readied.{same-page, same-form, same-did, sent}
-use Rattle.line.proofs.Turn.Storing.{Reached, cast, one, unheard}
+use Rattle.line.proofs.Turn.Storing.{Found, found-at, Reached, cast, stored-there, one, unheard}
 use Rattle.line.proofs.Turn.Says.{By, tried, SaysHeld, packet-says, packet-tried}
 use Rattle.line.proofs.Turn.Sends.{whole-packet}
 
@@ -60,7 +60,7 @@ module _ (net : List ℕ) (s : shape net ≡ true) (b : Rams net) (fault : ℕ) 
   to = nodeOf m did h (rows m)
 
   cancels : Path net (Does Cancels ∷ []) m
-  cancels = more begin (Does Cancels) p
+  cancels = more begin (Does Cancels) p tt
 
   now : Alike net m
   now = sound net s b cancels
@@ -99,12 +99,12 @@ module _ (net : List ℕ) (s : shape net ≡ true) (b : Rams net) (fault : ℕ) 
     to-is = rw did-is (alike-node-of now (sentTo net) h)
 
     -- at the end the transmit ends, or waits on
-    ends : {x : List ℕ} {l : List Change} → Path net l x → ((g : Regs) → allDone l g ≡ cancelled g) → (o : Own) → Allowed net l (Does o) → (a : Outcome)
+    ends : {x : List ℕ} {l : List Change} → Path net l x → ((g : Regs) → allDone l g ≡ cancelled g) → (o : Own) → Allowed net l (Does o) → Ready (regsAt x h) (Does o) → (a : Outcome)
         → ((g : Regs) → does o (cancelled g) ≡ holderAfter a g) → tried a ≡ true → Reached net fault a
         → ((j : ℕ) → j < rows net → storedBy h l j (regsAt net j) ≡ stores net fault j) → ByTurn (record { answer = a; after = onRow x h (does o) })
-    ends q w o ok a e u k v = record {
+    ends q w o ok r a e u k v = record {
       changes = _;
-      path = more q (Does o) ok;
+      path = more q (Does o) ok r;
       says = record { own = λ g. ap (does o) (w g) ∙ e g; waits = tries .waits ∙ sym u; reached = k };
       stored = v;
     }
@@ -113,7 +113,7 @@ module _ (net : List ℕ) (s : shape net ≡ true) (b : Rams net) (fault : ℕ) 
     unfolding stores
     malformed-ends f =
         let e : malformed (sentShape net) ≡ true = rw form-is at f in
-        ends cancels (λ g. refl) (Ends false false) tries Malformed (λ g. refl) refl tt (λ j _. rw (z, p, tries .waits, e))
+        ends cancels (λ g. refl) (Ends false false) tries tt Malformed (λ g. refl) refl tt (λ j _. rw (z, p, tries .waits, e))
 
     module _ (sound-form : malformed form ≡ false) where
       f : malformed (sentShape net) ≡ false
@@ -131,10 +131,10 @@ module _ (net : List ℕ) (s : shape net ≡ true) (b : Rams net) (fault : ℕ) 
       unfolding wentOut
       went-out to broadcast other =
           let x = stampedNet m h page in
-          let c = more cancels (Stamps page) (tries, same-page net s) in
+          let c = more cancels (Stamps page) (tries, same-page net s) tt in
           let went = sent net s now f in
           let a = sound net s b c in
-          let d = more c (Reaches (Message h false)) (refl, λ e. omega (arith, p, e)) in
+          let d = more c (Reaches (Message h false)) (refl, λ e. omega (arith, p, e)) tt in
           let k = packetAt (rowAt x h) page in
           let lx : h < rows x = omega (arith, a .count, low) in
           pick-of (Went to broadcast) (damaged fault) (λ e. record { changes = _; path = d; own = λ g. refl; stored = λ j. rw e })
@@ -146,7 +146,7 @@ module _ (net : List ℕ) (s : shape net ≡ true) (b : Rams net) (fault : ℕ) 
               whole = whole-packet x (a .fits) (a .rams) h lx page (transmit-page-small (regsAt m h));
               packet = went;
               other = other;
-            });
+            }) tt;
             own = λ g. refl;
             stored = λ j. let g = regsAt net j in rw (e, went .form) (alone (takes h to broadcast j g) (receiving g) (storable g (sentShape net)));
           })
@@ -156,7 +156,7 @@ module _ (net : List ℕ) (s : shape net ≡ true) (b : Rams net) (fault : ℕ) 
       broadcast-ends d =
           let e : eqb (sentTo net) 0 ≡ true = rw did-is at d in
           let w = went-out (rows m) true (λ e. omega (arith, now .count, low)) in
-          ends (w .path) (w .own) (Ends false false) tries Broadcast (λ g. refl) refl (cast net fault z p (tries .waits) f e) (λ j _. w .stored j ∙ rw (z, p, tries .waits, f, e, now .count))
+          ends (w .path) (w .own) (Ends false false) tries tt (Broadcast form) (λ g. refl) refl (form-is, cast net fault z p (tries .waits) f e) (λ j _. w .stored j ∙ rw (z, p, tries .waits, f, e, now .count))
 
       module _ (other-did : eqb did 0 ≡ false) where
         d : eqb (sentTo net) 0 ≡ false
@@ -169,23 +169,38 @@ module _ (net : List ℕ) (s : shape net ≡ true) (b : Rams net) (fault : ℕ) 
         same : to < rows m → regsAt m to ≡ regsAt net to
         same l = ap regsOf (own-there net h s low Cancels to (omega (arith, now .count)) (nodeOf-found m did h (rows m) l .1))
 
-        delivers : (l : to < rows m) → receiving (regsAt m to) ≡ true → acknowledged m h page fault to ≡ true → Reached net fault Delivered
-        delivers l r a =
-            let u = and-left (not (damaged fault) && storable (regsAt m to) form) (not (ackLost fault)) a in
-            one net fault z p (tries .waits) f d to found (omega (arith, now .count)) (rw (same l) at r) (and-left (not (damaged fault)) (storable (regsAt m to) form) u)
-            (rw (same l, form-is) at (and-right (not (damaged fault)) (storable (regsAt m to) form) u))
+        answers : to < rows m → Found net to
+        answers l = found-at net fault z p (tries .waits) f d to found (omega (arith, now .count))
+
+        module _ (l : to < rows m) (r : receiving (regsAt m to) ≡ true) where
+          there : receiving (regsAt net to) ≡ true
+          there = rw (same l) at r
+
+          arrives-is : arrives m h page fault to ≡ (not (damaged fault) && storable (regsAt net to) (sentShape net))
+          arrives-is = rw (same l, form-is)
+
+          delivers : acknowledged m h page fault to ≡ true → Reached net fault (Delivered to form)
+          delivers a = (answers l, (form-is, one net fault z p (tries .waits) f d to found there (sym arrives-is ∙ and-left (arrives m h page fault to) (not (ackLost fault)) a)))
+
+          unheard-of : Reached net fault (Unacknowledged to form (arrives m h page fault to))
+          unheard-of = (answers l, (form-is, stored-there net fault z p (tries .waits) f d to found there ∙ sym arrives-is))
 
         packet-ends : to < rows m → receiving (regsAt m to) ≡ true → ByTurn (packetTurn m h page fault to)
         unfolding packetTurn stores
         packet-ends l r =
             let a = acknowledged m h page fault to in
             let w = went-out to false (nodeOf-found m did h (rows m) l .1) in
-            ends (w .path) (w .own) (Ends true a) tries (pick a Delivered Unacknowledged) (packet-says a) (packet-tried a)
-            (pick-of (Reached net fault) a (delivers l r) (λ _. tt)) (λ j _. w .stored j ∙ rw (z, p, tries .waits, f, d, ← to-is))
+            let v = arrives m h page fault to in
+            ends (w .path) (w .own) (Ends true a) tries tt (pick a (Delivered to form) (Unacknowledged to form v)) (packet-says to form v a) (packet-tried to form v a)
+            (pick-of (Reached net fault) a (delivers l r) (λ _. unheard-of l r)) (λ j _. w .stored j ∙ rw (z, p, tries .waits, f, d, ← to-is))
 
         -- a NAK, or no answer: nobody stores it
         asks : Path net (Reaches (Message h false) ∷ Does Cancels ∷ []) (happened m (Message h false))
-        asks = more cancels (Reaches (Message h false)) (refl, λ e. omega (arith, p, e))
+        asks = more cancels (Reaches (Message h false)) (refl, λ e. omega (arith, p, e)) tt
+
+        -- the holder does not hear its own message
+        waits-still : transmitting (regsAt (happened m (Message h false)) h) ≡ true
+        waits-still = ap transmitting (happened-here m (Message h false) (now .fits) h (omega (arith, now .count, low)) ∙ rw (eq-eqb h h refl)) ∙ t
 
         unstored : ((j : ℕ) → j < rows net → j ≡ to → receiving (regsAt net j) ≡ false) → Nobody
         unstored deaf = unheard net fault z p (tries .waits) f d to found deaf
@@ -196,9 +211,9 @@ module _ (net : List ℕ) (s : shape net ≡ true) (b : Rams net) (fault : ℕ) 
             pick-of ByTurn (ltb to (rows m))
             (λ l. let v = ltb-true to (rows m) l in
             pick-of ByTurn (receiving (regsAt m to)) (λ r. packet-ends v r)
-            (λ e. ends asks (λ g. refl) (Enquires true) tries Nak (λ g. refl) refl tt (unstored (λ j lj i. ap (λ (r : List ℕ). receiving (regsOf r))
+            (λ e. ends asks (λ g. refl) (Enquires true) tries waits-still (Nak to) (λ g. refl) refl (answers v, rw (same v) at e) (unstored (λ j lj i. ap (λ (r : List ℕ). receiving (regsOf r))
             (sym (own-there net h s low Cancels j lj (λ y. nodeOf-found m did h (rows m) v .1 (sym i ∙ y)))) ∙ ap (λ (k : ℕ). receiving (regsAt m k)) i ∙ e))))
-            (λ l. ends asks (λ g. refl) (Enquires false) tries NoAnswer (λ g. refl) refl tt
+            (λ l. ends asks (λ g. refl) (Enquires false) tries waits-still NoAnswer (λ g. refl) refl tt
             (unstored (λ j lj i. absurd (omega (arith, now .count, ltb-false to (rows m) l)))))
 
     try-ends : ByTurn (tryTurn m h page fault)

@@ -74,7 +74,7 @@ module _ (net : List ℕ) (s : shape net ≡ true) (h : ℕ) (l : h < rows net) 
   pub cancels-ready : (page : ℕ) → page ≡ transmitPage g → (shape x ≡ true) × ((h < rows x) × (page < 4))
   cancels-ready page e =
       let n : rows x ≡ rows net = ap rows ex ∙ frame-rows (setRow-frame net (rows net) (shape-room net s) h l _ (size-put (rowAt net h) g)) in
-      (rw after-cancels (shape-done net h s l (Does Cancels) tt), (omega arith, rw e (transmit-page-small g)))
+      (rw after-cancels (shape-done net h s l (Does Cancels) tt tt), (omega arith, rw e (transmit-page-small g)))
 
   module _ (b : Bool) (eb : b ≡ transmitting g) where
     waits : b ≡ transmitting (regsAt (onRow net h cancelled) h)

@@ -11,15 +11,13 @@ use lib.Dec.{eqb, lit<}
 use lib.ListN.{getD}
 use Rattle.registers.specs.declared.regs.Regs.{Regs}
 use Rattle.bits.specs.Words.{pick, among}
-use Rattle.registers.specs.Fields.{with-fetched}
 use Rattle.registers.specs.Sides.{chaining}
 use Rattle.registers.specs.Fit.{fit}
 use Rattle.registers.specs.Registers.{sub, writeFetches, fetched, hardwareReset, afterWrite}
 use Rattle.registers.specs.Layout.{resetBytes, at-second-transmit, at-second-receive, at-sent, at-received, at-fetched, writeBytes, writeChanges}
 use Rattle.bits.proofs.Words.Bools.{cases, or-left, or-right, pick-both}
-use Rattle.registers.proofs.Values.Keeps.{Keeps, row, row-at, keeps-then, keeps-fetched, keeps-all}
+use Rattle.registers.proofs.Values.Keeps.{Keeps, row, row-at, keeps-all}
 use Rattle.registers.proofs.Values.KeepsCalls.{keeps-write}
-use Rattle.registers.proofs.Values.Fits.{fit-rules}
 use Rattle.registers.proofs.Values.Unqueued.{Unqueued, unqueued-fit, unqueued-write}
 
 -- ---- the bytes of a chaining row alone
@@ -90,7 +88,4 @@ keeps-changes g u k v m =
 pub keeps-hardware : (g : Regs) → fit g ≡ true → Keeps (resetBytes (chaining g)) g hardwareReset
 unfolding hardwareReset
 keeps-hardware g f =
-    let r = fit-rules g f in
-    keeps-chained (chaining g) resetBytes refl g hardwareReset (λ c. (unqueued-fit g c f, search))
-    (keeps-then g (with-fetched 0 g) hardwareReset (keeps-fetched (resetBytes true) refl g 0)
-    (keeps-all (with-fetched 0 g) hardwareReset (rw (eqb-true (g .later .naklow) 0 (r .naklow), eqb-true (g .later .nakhigh) 0 (r .nakhigh)))))
+    keeps-chained (chaining g) resetBytes refl g hardwareReset (λ c. (unqueued-fit g c f, search)) (keeps-all g hardwareReset)

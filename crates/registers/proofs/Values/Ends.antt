@@ -13,6 +13,7 @@ use Rattle.bits.specs.Words.{pick, clear, has}
 use Rattle.bits.specs.Flags.{TMA, TA}
 use Rattle.queues.specs.Queues.{two, movedUp}
 use Rattle.registers.specs.Sides.{chaining, sideOf, tta}
+use Rattle.registers.specs.Naks.{nakCounted}
 use Rattle.registers.specs.Events.{heard, received, transmitCancelled, cancelled, sent, transmitting, transmitPage, receiving, enquired, receivePage}
 use Rattle.bits.proofs.Words.Bools.{or-first}
 use Rattle.queues.proofs.Apart.{cancelled-apart}
@@ -114,7 +115,7 @@ module _ (g : Regs) where
     heard-chaining = refl
 
   -- an enquiry that no packet followed is heard of by its answer, or ends the transmit
-  pub enquired-nak : enquired g true ≡ heard g false
+  pub enquired-nak : enquired g true ≡ heard (nakCounted g) false
   unfolding enquired
   enquired-nak = refl
 

@@ -1,17 +1,21 @@
 -- Registers that fit stay so when a byte is written, and when a side changes.
 -- Assumes nothing.
 use mathlib.Core.Path.{_≡_, refl, _∙_}
-use mathlib.Core.Bool.{true, false}
+use mathlib.Core.Bool.{true, false, _||_}
+use mathlib.Core.Logic.{⊎-elim}
 use Prim.Native.Nat.{ℕ, _-_}
 use lib.Bits.{bitAnd}
+use lib.Dec.{eqb}
 use Rattle.bits.specs.declared.way.Way.{Way}
 use Rattle.bits.specs.declared.way.Way.the-variants.{Transmit, Receive}
 use Rattle.queues.specs.declared.queues.Side.{Side}
 use Rattle.registers.specs.declared.regs.Regs.{Regs}
-use Rattle.bits.specs.Words.{clear, raise, lower}
-use Rattle.bits.specs.Flags.{RI, TMA, TA, LOW2, only, statusBits, diagnosticBits, maskBits, setupBits, modeBits}
+use Rattle.bits.specs.Words.{pick, clear, has, raise, lower}
+use Rattle.bits.specs.Flags.{RI, TMA, TA, EXCNAK, LOW2, only, statusBits, diagnosticBits, maskBits, setupBits, modeBits}
 use Rattle.registers.specs.Fields.{with-id, with-status, with-diagnostic, with-mask, with-setup, with-tentative, with-nid, with-high, with-low, with-mode, with-long, with-fetched}
 use Rattle.registers.specs.Sides.{chaining, sideOf, withSide}
+use Rattle.registers.specs.Naks.{nakLimit, naks}
+use Rattle.bits.proofs.Words.Bools.{cases}
 use Rattle.bits.proofs.Words.Masks.{lower-other, raise-other}
 use Rattle.queues.proofs.Fits.{Fits, fits-status, fits-long}
 use Rattle.queues.proofs.Apart.{Apart}
@@ -31,8 +35,11 @@ module _ (g : Regs) (f : Fit g) where
   pub fit-fetched : (v : ℕ) → Fit (with-fetched v g)
   fit-fetched v = search f
 
-  pub fit-diagnostic : (v : ℕ) → only diagnosticBits v ≡ true → Fit (with-diagnostic v g)
-  fit-diagnostic v e = search (f, e)
+  -- the diagnostic, but for EXCNAK
+  pub fit-diagnostic : (v : ℕ) → only diagnosticBits v ≡ true → clear EXCNAK v ≡ clear EXCNAK (g .diagnostic) → Fit (with-diagnostic v g)
+  fit-diagnostic v e c =
+      let x : pick (eqb (naks g) nakLimit) (has EXCNAK v) (clear EXCNAK v) ≡ true = rw c (f .excess) in
+      search (f, e, x)
 
   pub fit-mask : (v : ℕ) → only maskBits v ≡ true → Fit (with-mask v g)
   fit-mask v e = search (f, e)
@@ -46,16 +53,24 @@ module _ (g : Regs) (f : Fit g) where
   pub fit-pointer : (a b : ℕ) → only LOW2 a ≡ true → Fit (with-high a (with-low b g))
   fit-pointer a b e = search (f, e)
 
+  -- a transmit that NAKs are counted of waits still
+  counts-still : (s : ℕ) → (eqb (naks g) 0 ≡ false → clear TA (g .status) ≡ true → clear TA s ≡ true) → (eqb (naks g) 0 || clear TA s) ≡ true
+  counts-still s e =
+      ⊎-elim (λ (z : eqb (naks g) 0 ≡ true). rw z) (λ (z : eqb (naks g) 0 ≡ false). rw (z, e z (rw z at (f .counts)))) (cases (eqb (naks g) 0))
+
   -- ---- a side, where the change leaves the flags of the status that are not its own
-  pub fit-side : (w : Way) (s : Side) → Fits w (chaining g) (g .long) s → ((m : ℕ) → Apart w m → clear m (s .status) ≡ clear m (sideOf w g .status)) → Fit (withSide w s g)
-  fit-side Transmit s k left =
+  pub fit-side : (w : Way) (s : Side) → Fits w (chaining g) (g .long) s → ((m : ℕ) → Apart w m → clear m (s .status) ≡ clear m (sideOf w g .status))
+      → (eqb (naks g) 0 ≡ false → clear TA (sideOf w g .status) ≡ true → clear TA (s .status) ≡ true) → Fit (withSide w s g)
+  fit-side Transmit s k left waits =
       let e = left (255 - statusBits) (refl, refl, refl, refl, refl) ∙ f .status in
       let r = fits-status Receive (sideOf Receive g) (f .receive) (s .status) (left RI (refl, refl, refl, refl, refl)) in
-      search (f, e, k, r)
-  fit-side Receive s k left =
+      let n = counts-still (s .status) waits in
+      search (f, e, k, r, n)
+  fit-side Receive s k left waits =
       let e = left (255 - statusBits) (refl, refl) ∙ f .status in
       let t = fits-status Transmit (sideOf Transmit g) (f .transmit) (s .status) (left TA (refl, refl), left TMA (refl, refl)) in
-      search (f, e, k, t)
+      let n = counts-still (s .status) waits in
+      search (f, e, k, t, n)
 
   -- ---- long packets, where nothing waits
   pub fit-long : (l : ℕ) → only 1 l ≡ true → clear TA (g .status) ≡ false → clear RI (g .status) ≡ false → Fit (with-long l g)
@@ -70,7 +85,8 @@ module _ (g : Regs) (f : Fit g) where
   fit-status s e ta ri tma =
       let t = fits-status Transmit (sideOf Transmit g) (f .transmit) s (ta, tma) in
       let r = fits-status Receive (sideOf Receive g) (f .receive) s ri in
-      search (f, e, t, r)
+      let n = counts-still s (λ _ c. ta ∙ c) in
+      search (f, e, t, r, n)
 
   pub fit-lower : (m : ℕ) → bitAnd (255 - m) (255 - statusBits) ≡ 255 - statusBits → bitAnd (255 - m) TA ≡ TA → bitAnd (255 - m) RI ≡ RI
       → bitAnd (255 - m) TMA ≡ TMA → Fit (with-status (lower m (g .status)) g)

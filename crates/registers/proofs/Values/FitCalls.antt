@@ -11,7 +11,7 @@ use Rattle.bits.specs.declared.way.Way.the-variants.{Transmit, Receive}
 use Rattle.queues.specs.declared.queues.Side.{Side}
 use Rattle.registers.specs.declared.regs.Regs.{Regs}
 use Rattle.bits.specs.Words.{clear, has}
-use Rattle.bits.specs.Flags.{RI, TA, LOW2, AUTO-INC, RESET, CCHEN, only, maskBits, setupBits, modeBits}
+use Rattle.bits.specs.Flags.{RI, TA, EXCNAK, LOW2, AUTO-INC, RESET, CCHEN, only, diagnosticBits, maskBits, setupBits, modeBits}
 use Rattle.registers.specs.Fields.{with-configuration}
 use Rattle.registers.specs.Sides.{chaining, sideOf}
 use Rattle.registers.specs.Fit.{fit}
@@ -20,6 +20,7 @@ use Rattle.registers.specs.Registers.{sub, risen, stepped, readFetches, 
 use Rattle.told.specs.Numbers.{REGISTER, VALUE, BUSY, PAGE, refuses}
 use Rattle.registers.specs.Refusals.{noRegister, badValue, busy, chainBusy, writeRefusals, writeNumber}
 use Rattle.bits.proofs.Words.Bools.{or-left, or-right, or-four, pick-of}
+use Rattle.bits.proofs.Words.Masks.{lower-clears, lower-other}
 use Rattle.queues.proofs.Fits.{Fits, fits-none}
 use Rattle.told.proofs.Told.Smallest.{none-refuses}
 use Rattle.bits.proofs.Words.Table.{low2}
@@ -75,7 +76,7 @@ module _ (g : Regs) (f : Fit g) where
   unfolding afterRead
   fit-read k m =
       keeps.fit-fetched (afterRead g k)
-      (pick-of Fit (eqb k 1) (λ _. keeps.fit-diagnostic g f 0 refl) (λ _. pick-of Fit (eqb k 4) (λ _. fit-stepped) (λ _. f))) _
+      (pick-of Fit (eqb k 1) (λ _. keeps.fit-diagnostic g f _ (lower-clears (255 - diagnosticBits) (255 - EXCNAK) (g .diagnostic) refl) (lower-other EXCNAK (255 - EXCNAK) (g .diagnostic) refl)) (λ _. pick-of Fit (eqb k 4) (λ _. fit-stepped) (λ _. f))) _
 
   module _ (k v : ℕ) (e : writeNumber g k v ≡ 0) where
     none : (n : ℕ) → refuses (writeRefusals g k v) n ≡ false

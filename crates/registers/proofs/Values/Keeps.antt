@@ -11,11 +11,13 @@ use Rattle.bits.specs.declared.way.Way.{Way}
 use Rattle.bits.specs.declared.way.Way.the-variants.{Transmit, Receive}
 use Rattle.queues.specs.declared.queues.Side.{Side}
 use Rattle.registers.specs.declared.regs.Regs.{Regs}
-use Rattle.bits.specs.Words.{among}
+use Rattle.bits.specs.Words.{among, has}
+use Rattle.bits.specs.Flags.{CANCEL}
 use Rattle.queues.specs.Queues as queues
-use Rattle.registers.specs.Fields.{with-fetched}
+use Rattle.registers.specs.Fields.{with-diagnostic, with-fetched, with-naks}
+use Rattle.registers.specs.Naks.{nakCounted, naksDropped}
 use Rattle.registers.specs.Sides.{sideOf, withSide}
-use Rattle.registers.specs.Layout.{at-id, at-status, at-diagnostic, at-nid, at-transmit, at-receive, at-second-transmit, at-second-receive, at-sent, at-received, at-fetched, bytesOf, laterOf, transmitBytes, receiveBytes, resetBytes}
+use Rattle.registers.specs.Layout.{at-id, at-status, at-diagnostic, at-nid, at-transmit, at-receive, at-second-transmit, at-second-receive, at-sent, at-received, at-fetched, at-nak-low, at-nak-high, bytesOf, laterOf, transmitBytes, receiveBytes, nakBytes, resetBytes}
 use Rattle.registers.specs.Events.{burst, recovered, heard, answered, risenNid, received, transmitCancelled, cancelled, sent, enquired}
 use Rattle.bits.proofs.Words.Bools.{and-left, and-right, pick-of}
 use Rattle.queues.proofs.Leaves.{cancelled-done}
@@ -72,13 +74,33 @@ keeps-fetched l t g m = record { kept = λ k e. refl; later = other }
     other zero e = absurd (true≢false (sym t ∙ e))
     other (suc k) e = refl
 
--- every other byte of a reset
-pub keeps-all : (g h : Regs) → laterOf h ≡ laterOf g → Keeps (resetBytes true) g h
-keeps-all g h e =
-    keeps-puts (resetBytes true) g h
+-- the count of NAKs, and EXCNAK with it
+pub keeps-naks : (l : List ℕ) → within nakBytes l ≡ true → (g : Regs) (diagnostic low high : ℕ) → Keeps l g (with-diagnostic diagnostic (with-naks low high g))
+keeps-naks l u g diagnostic low high = record {
+  kept = keeps-puts l g (with-diagnostic diagnostic g) ((at-diagnostic, diagnostic) ∷ []) (and-right (within (at-nak-low ∷ at-nak-high ∷ []) l) (among l at-diagnostic) u) refl refl .kept;
+  later = other;
+}
+  where
+    counts : within (at-nak-low ∷ at-nak-high ∷ []) l ≡ true
+    counts = and-left (within (at-nak-low ∷ at-nak-high ∷ []) l) (among l at-diagnostic) u
+
+    other : (k : ℕ) → among l (at-fetched + k) ≡ false → getD (laterOf (with-naks low high g)) k 0 ≡ getD (laterOf g) k 0
+    other zero e = refl
+    other (suc zero) e = absurd (true≢false (sym (and-right (within (at-nak-high ∷ []) l) (among l at-nak-low) counts) ∙ e))
+    other (suc (suc zero)) e = absurd (true≢false (sym (and-left (within (at-nak-high ∷ []) l) (among l at-nak-low) counts) ∙ e))
+    other (suc (suc (suc k))) e = refl
+
+-- every byte of a reset
+pub keeps-all : (g h : Regs) → Keeps (resetBytes true) g h
+keeps-all g h =
+    let i = with-fetched (h .later .fetched) g in
+    let j = with-diagnostic (h .diagnostic) (with-naks (h .later .naklow) (h .later .nakhigh) i) in
+    keeps-then g i h (keeps-fetched (resetBytes true) refl g (h .later .fetched))
+    (keeps-then i j h (keeps-naks (resetBytes true) refl i (h .diagnostic) (h .later .naklow) (h .later .nakhigh))
+    (keeps-puts (resetBytes true) j h
     ((2, h .id) ∷ (3, h .status) ∷ (4, h .diagnostic) ∷ (5, h .mask) ∷ (6, h .configuration) ∷ (7, h .setup) ∷ (8, h .tentative) ∷ (9, h .nid) ∷ (10, h .high) ∷ (11, h .low)
     ∷ (12, h .mode) ∷ (13, h .transmit .oldest) ∷ (14, h .receive .oldest) ∷ (15, h .long) ∷ (16, h .transmit .second) ∷ (17, h .receive .second) ∷ (18, h .transmit .done)
-    ∷ (19, h .receive .done) ∷ []) refl refl e
+    ∷ (19, h .receive .done) ∷ []) refl refl refl))
 
 -- a side: the status, and the three bytes of its queue
 abbrev pub sideBytes : Way → List ℕ
@@ -115,31 +137,31 @@ module _ (l : List ℕ) (g : Regs) where
   unfolding received
   keeps-received u = keeps-side Receive u _
 
-  pub keeps-sent : within (sideBytes Transmit) l ≡ true → (a : Bool) → Keeps l g (sent g a)
+  -- a transmit ends, and its NAKs are dropped
+  pub keeps-sent : within nakBytes l ≡ true → within (sideBytes Transmit) l ≡ true → (a : Bool) → Keeps l g (sent g a)
   unfolding sent
-  keeps-sent u a = keeps-side Transmit u _
+  keeps-sent n u a = let h = naksDropped true g in keeps-then g h _ (keeps-naks l n g _ _ _) (keeps-puts l h _ ((at-status, _) ∷ (at-transmit, _) ∷ (at-second-transmit, _) ∷ (at-sent, _) ∷ []) u refl refl)
 
   -- the cancels leave the ends that are not cleared
-  pub keeps-cancelled : within (at-status ∷ at-transmit ∷ at-second-transmit ∷ at-receive ∷ at-second-receive ∷ []) l ≡ true → Keeps l g (cancelled g)
+  pub keeps-cancelled : within nakBytes l ≡ true → within (at-status ∷ at-transmit ∷ at-second-transmit ∷ at-receive ∷ at-second-receive ∷ []) l ≡ true → Keeps l g (cancelled g)
   unfolding cancelled
-  keeps-cancelled u =
+  keeps-cancelled n u =
+      let i = naksDropped (has CANCEL (g .transmit .oldest)) g in
       let h = transmitCancelled g in
       let t = queues.cancelled Transmit (sideOf Transmit g) in
       let r = queues.cancelled Receive (sideOf Receive h) in
-      keeps-puts l g _
+      keeps-then g i _ (keeps-naks l n g _ _ _)
+      (keeps-puts l i _
       ((at-status, r .status) ∷ (at-transmit, t .queue .oldest) ∷ (at-second-transmit, t .queue .second) ∷ (at-receive, r .queue .oldest) ∷ (at-second-receive, r .queue .second) ∷ [])
-      u (rw (cancelled-done Transmit (sideOf Transmit g), cancelled-done Receive (sideOf Receive h))) refl
+      u (rw (cancelled-done Transmit (sideOf Transmit g), cancelled-done Receive (sideOf Receive h))) refl)
 
-module _ (l : List ℕ) (g : Regs) (u : within (at-diagnostic ∷ sideBytes Transmit) l ≡ true) where
-  own : within (sideBytes Transmit) l ≡ true
-  own = and-left (within (sideBytes Transmit) l) (among l at-diagnostic) u
-
-  answer : (token : Bool) → Keeps l g (heard g token)
-  answer = keeps-heard l g (and-right (within (sideBytes Transmit) l) (among l at-diagnostic) u)
+module _ (l : List ℕ) (g : Regs) (n : within nakBytes l ≡ true) (u : within (sideBytes Transmit) l ≡ true) where
+  answer : (h : Regs) → Keeps l h (heard h false)
+  answer h = keeps-heard l h (and-right (within (at-nak-low ∷ at-nak-high ∷ []) l) (among l at-diagnostic) n) false
 
   pub keeps-enquired : (nak : Bool) → Keeps l g (enquired g nak)
   unfolding enquired
-  keeps-enquired nak = pick-of (Keeps l g) nak (λ _. answer false) (λ _. keeps-sent l g own false)
+  keeps-enquired nak = pick-of (Keeps l g) nak (λ _. keeps-then g (nakCounted g) _ (keeps-naks l n g _ _ _) (answer (nakCounted g))) (λ _. keeps-sent l g n u false)
 
   pub keeps-heard-sent : (a : Bool) → Keeps l g (sent (heard g false) a)
-  keeps-heard-sent a = keeps-then g (heard g false) _ (answer false) (keeps-sent l (heard g false) own a)
+  keeps-heard-sent a = keeps-then g (heard g false) _ (answer g) (keeps-sent l (heard g false) n u a)

@@ -14,6 +14,7 @@ use Rattle.bits.specs.Words.{all, among, clear, has}
 use Rattle.bits.specs.Flags.{TMA, TA, CCHEN, only, maskBits, modeBits}
 use Rattle.queues.specs.Queues as queues
 use Rattle.registers.specs.Sides.{chaining, sideOf, tta}
+use Rattle.registers.specs.Naks.{nakRules}
 use Rattle.registers.specs.Fit.{named, fit}
 use Rattle.commands.specs.Commands.{commandOf, legalBytes}
 use Rattle.registers.specs.Registers.{shown, interrupt, changesChaining, configured}
@@ -63,7 +64,7 @@ module _ (g : Regs) (c : chaining g ≡ false) where
   pub fit-plain : fit g ≡ plainFit g
   unfolding fit
   fit-plain =
-      let n = all (named g) in
+      let n = all (named g) && all (nakRules g) in
       let l = plainAgree g in
       let x = queues.fit Transmit (chaining g) (g .long) (sideOf Transmit g) in
       let y = queues.fit Receive (chaining g) (g .long) (sideOf Receive g) in

@@ -15,7 +15,7 @@ use Rattle.registers.specs.Fields.{with-configuration, with-fetched}
 use Rattle.registers.specs.Fit.{awake, onLine}
 use Rattle.commands.specs.Commands.{commandOf}
 use Rattle.registers.specs.Registers.{sub, stepped, afterRead, hardwareReset, changesChaining, configured, commanded, writesId, seventhWritten, afterWrite}
-use Rattle.registers.specs.Events.{burst, recovered, heard, answered, risenNid, received, cancelled, sent}
+use Rattle.registers.specs.Events.{burst, recovered, heard, answered, risenNid, received, cancelled, sent, enquired}
 use Rattle.bits.proofs.Words.Bools.{pick-of, cases}
 use mathlib.Core.Logic.{⊎-elim}
 
@@ -136,6 +136,11 @@ module _ (g : Regs) where
   pub same-sent : (a : Bool) → SameCard g (sent g a)
   unfolding sent
   same-sent a = search
+
+  pub same-enquired : (nak : Bool) → SameCard g (enquired g nak)
+  unfolding enquired heard sent
+  same-enquired true = search
+  same-enquired false = search
 
   pub same-received : SameCard g (received g)
   unfolding received

@@ -1,7 +1,7 @@
 -- A row with CCHEN 0: each change is that of document 01 alone, and nothing is in its bytes 16 to 19, before it and after.
 -- Assumes nothing.
 use mathlib.Core.Path.{_≡_, refl, _∙_, ap}
-use mathlib.Core.Bool.{Bool, true, false, _&&_}
+use mathlib.Core.Bool.{Bool, true, false, not, _&&_}
 use Prim.Native.Nat.{ℕ}
 use lib.Dec.{eqb}
 use Rattle.bits.specs.declared.way.Way.the-variants.{Transmit, Receive}
@@ -9,18 +9,19 @@ use Rattle.queues.specs.declared.queues.Side.{Side}
 use Rattle.registers.specs.declared.regs.Regs.{Regs}
 use Rattle.commands.specs.declared.commands.Command.{Command}
 use Rattle.commands.specs.declared.commands.Command.the-variants.{Illegal, Disable, Enable, LongPackets, ClearFlags, Clear}
-use Rattle.bits.specs.Words.{clear, has, all}
+use Rattle.bits.specs.Words.{pick, clear, has, all}
 use Rattle.bits.specs.Flags.{RESET, AUTO-INC, CANCEL}
 use Rattle.queues.specs.Queues as queues
 use Rattle.registers.specs.Sides.{chaining, sideOf, withSide}
 use Rattle.registers.specs.Fields.{with-configuration}
+use Rattle.registers.specs.Naks.{naksDropped, nakRules}
 use Rattle.registers.specs.Fit.{named, fit}
 use Rattle.commands.specs.Commands.{commandOf}
 use Rattle.registers.specs.Registers.{sub, stepped, changesChaining, configured, commanded, seventhWritten, afterWrite}
 use Rattle.registers.specs.Events.{received, transmitCancelled, receiveCancelled, cancelled, sent}
 use Rattle.registers.specs.Plain.{plainCommanded, plainReceived, plainTransmitCancelled, plainReceiveCancelled, plainSent}
 use Rattle.bits.proofs.Words.Bools.{and-left, and-right, pick-of, pick-both}
-use Rattle.queues.proofs.Plain.{Alone, alone-fit, plain-ended, plain-cleared, plain-enabled, plain-disabled, plain-cancelled}
+use Rattle.queues.proofs.Plain.{Alone, alone-fit, emptied, plain-ended, plain-cleared, plain-enabled, plain-disabled, plain-cancelled}
 
 pub record Unqueued (g : Regs) : Type 0 where
   pub transmit : Alone (g .transmit)
@@ -31,11 +32,12 @@ module _ (g : Regs) (c : chaining g ≡ false) where
   pub unqueued-fit : fit g ≡ true → Unqueued g
   unfolding fit
   unqueued-fit f =
+      let n = all (named g) && all (nakRules g) in
       let t = queues.fit Transmit (chaining g) (g .long) (sideOf Transmit g) in
       let r = queues.fit Receive (chaining g) (g .long) (sideOf Receive g) in
       record {
-        transmit = alone-fit Transmit (g .long) (sideOf Transmit g) (rw c at (and-right (all (named g)) t (and-left (all (named g) && t) r f)));
-        receive = alone-fit Receive (g .long) (sideOf Receive g) (rw c at (and-right (all (named g) && t) r f));
+        transmit = alone-fit Transmit (g .long) (sideOf Transmit g) (rw c at (and-right n t (and-left (n && t) r f)));
+        receive = alone-fit Receive (g .long) (sideOf Receive g) (rw c at (and-right (n && t) r f));
       }
 
   module _ (u : Unqueued g) where
@@ -93,8 +95,14 @@ module _ (g : Regs) (c : chaining g ≡ false) where
 -- ---- the cancels of each side
 transmit-plain : (g : Regs) → Alone (g .transmit) → transmitCancelled g ≡ plainTransmitCancelled g
 transmit-plain g a =
-    rw (plain-cancelled Transmit (sideOf Transmit g) a)
-    (pick-both (λ (s : Side) (h : Regs). withSide Transmit s g ≡ h) (clear CANCEL (g .transmit .oldest)) refl refl)
+    rw (plain-cancelled Transmit (sideOf Transmit g) a) (split (clear CANCEL (g .transmit .oldest)))
+  where
+    s : Side
+    s = sideOf Transmit g
+
+    split : (b : Bool) → naksDropped (not b) (withSide Transmit (pick b s (emptied Transmit s)) g) ≡ pick b g (naksDropped true (withSide Transmit (emptied Transmit s) g))
+    split true = refl
+    split false = refl
 
 receive-plain : (g : Regs) → Alone (g .receive) → receiveCancelled g ≡ plainReceiveCancelled g
 receive-plain g a =

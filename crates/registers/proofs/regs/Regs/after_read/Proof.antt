@@ -7,7 +7,7 @@ use Rattle.registers.proofs.regs.Regs.after_read.Tie as tie
 
 returns : tie.Need-returns
 unfolding afterRead
-returns c = simp (c .match .keys1)
+returns c = simp (c .before .match .keys1)
 
 returns-2 : tie.Need-returns-2
 unfolding afterRead

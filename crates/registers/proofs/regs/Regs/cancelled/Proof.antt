@@ -6,7 +6,7 @@ use Rattle.registers.proofs.regs.Regs.cancelled.Tie as tie
 
 returns : tie.Need-returns
 unfolding cancelled
-returns c = simp (c .relieved2 .ensures, c .before .relieved .ensures)
+returns c = simp (c .relieved2 .ensures, c .before .relieved .ensures, c .before .before .naks-dropped .ensures)
 
 pub cancelled-spec : {M : Type 1} → statement M
-cancelled-spec = tie.close (tie.spec (λ c κs. search needs) (λ c κs. search needs) returns)
+cancelled-spec = tie.close (tie.spec (λ c κs. search needs) (λ c κs. search needs) (λ c κs. search needs) returns)

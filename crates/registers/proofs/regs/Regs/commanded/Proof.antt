@@ -22,11 +22,13 @@ returns-4 c = simp (c .before .command3 .given .1)
 
 returns-5 : tie.Need-returns-5
 unfolding commanded
-returns-5 c = simp (c .choose2 .ensures, c .before .before .choose .ensures, c .before .before .before .before .command4 .given .1)
+returns-5 c =
+    let d = c .before in
+    simp (c .naks-dropped .ensures, d .choose2 .ensures, d .before .before .choose .ensures, d .before .before .before .before .command4 .given .1)
 
 returns-6 : tie.Need-returns-6
 unfolding commanded
 returns-6 c = simp (c .cleared .ensures, c .before .before .command5 .given .1)
 
 pub commanded-spec : {M : Type 1} → statement M
-commanded-spec = tie.close (tie.spec (λ c. search needs) (λ c. search needs) (λ c κs. search needs) (λ c. search needs) (λ c κs. search needs) (λ c. search needs) (λ c. search needs) (λ c κs. search needs) (λ c κs. search needs) (λ c. search needs) (λ c κs. search needs) returns returns-2 returns-3 returns-4 returns-5 returns-6)
+commanded-spec = tie.close (tie.spec (λ c. search needs) (λ c. search needs) (λ c κs. search needs) (λ c. search needs) (λ c κs. search needs) (λ c. search needs) (λ c. search needs) (λ c κs. search needs) (λ c κs. search needs) (λ c κs. search needs) (λ c. search needs) (λ c κs. search needs) returns returns-2 returns-3 returns-4 returns-5 returns-6)

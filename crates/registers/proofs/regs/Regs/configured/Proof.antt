@@ -11,7 +11,7 @@ returns c = simp (c .rechained .ensures, eq-eqb _ _ (c .before .if1 .taken))
 
 returns-2 : tie.Need-returns-2
 unfolding configured
-returns-2 c = simp (c .none2 .ensures, c .before .none .ensures, ne-eqb _ _ (c .before .before .if1 .left))
+returns-2 c = let d = c .before .before in simp (d .none2 .ensures, d .before .none .ensures, ne-eqb _ _ (d .before .before .if1 .left))
 
 pub configured-spec : {M : Type 1} → statement M
 configured-spec = tie.close (tie.spec (λ c κs. search needs) returns (λ c κs. search needs) (λ c κs. search needs) returns-2)

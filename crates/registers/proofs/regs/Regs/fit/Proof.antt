@@ -8,8 +8,9 @@ returns : tie.Need-returns
 unfolding fit
 returns c =
     let t = c .before .before in
-    let k = t .before .before .before .before .before .before .before .before .before .before .before in
-    simp (c .fit2 .ensures, c .before .side2 .ensures, t .fit .ensures, t .before .side .ensures, k .chaining .ensures)
+    let n = t .before .before in
+    let k = n .before .before .before .before .before .before .before .before in
+    simp (c .fit2 .ensures, c .before .side2 .ensures, t .fit .ensures, t .before .side .ensures, n .naks-fit .ensures, k .chaining .ensures)
 
 pub fit-spec : {M : Type 1} → statement M
-fit-spec = tie.close (tie.spec (λ c κs. search needs) (λ c κs. search needs) (λ c κs. search needs) (λ c κs. search needs) (λ c κs. search needs) returns)
+fit-spec = tie.close (tie.spec (λ c κs. search needs) (λ c κs. search needs) (λ c κs. search needs) (λ c κs. search needs) (λ c κs. search needs) (λ c κs. search needs) returns)

@@ -7,7 +7,7 @@ use Rattle.registers.proofs.regs.Regs.interrupt.Tie as tie
 returns : tie.Need-returns
 unfolding interrupt
 returns c =
-    let d = c .before .before .before .before .before in
+    let d = c .before .before .before .before .before .before .before in
     let e = d .before .before in
     let f = e .before in
     let g = f .before .before in

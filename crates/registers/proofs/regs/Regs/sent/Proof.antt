@@ -6,7 +6,7 @@ use Rattle.registers.proofs.regs.Regs.sent.Tie as tie
 
 returns : tie.Need-returns
 unfolding sent
-returns c = c .ended .ensures
+returns c = simp (c .naks-dropped .ensures, c .before .ended .ensures)
 
 pub sent-spec : {M : Type 1} → statement M
-sent-spec = tie.close (tie.spec (λ c κs. search needs) returns)
+sent-spec = tie.close (tie.spec (λ c κs. search needs) (λ c κs. search needs) returns)
