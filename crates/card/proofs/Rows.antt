@@ -7,4 +7,5 @@ pub mod Touched
 pub mod Accesses
 pub mod Moves
 pub mod Ahead
+pub mod Counts
 pub mod Bystanders

@@ -4,3 +4,4 @@ pub mod Host
 pub mod Demand
 pub mod Shuffle
 pub mod Ahead
+pub mod Naks

@@ -6,4 +6,6 @@ pub mod Bystanding
 pub mod Left
 pub mod TheHolder
 pub mod EveryRow
+pub mod Still
+pub mod Counts
 pub mod Who

@@ -3,7 +3,7 @@
 use mathlib.Core.Path.{_≡_}
 use mathlib.Core.Bool.{Bool, true, false, not, _&&_, _||_}
 use mathlib.Core.List.{List, [], _∷_, _++_}
-use Prim.Native.Nat.{ℕ}
+use Prim.Native.Nat.{ℕ, _+_}
 use lib.Dec.{eqb}
 use Rattle.bits.specs.declared.way.Way.the-variants.{Transmit}
 use Rattle.registers.specs.declared.regs.Regs.{Regs}
@@ -15,7 +15,8 @@ use Rattle.line.specs.declared.step.Answer.the-variants.{Refused, Quiet,
 use Rattle.bits.specs.Words.{pick, has, among}
 use Rattle.registers.specs.Layout.{at-status, at-diagnostic, at-nid, at-receive, at-second-receive, transmitBytes, receiveBytes, nakBytes}
 use Rattle.registers.specs.Sides.{chaining, tta}
-use Rattle.bits.specs.Flags.{TMA, TA}
+use Rattle.bits.specs.Flags.{TMA, TA, CANCEL}
+use Rattle.registers.specs.Naks.{naks, upToLimit}
 use Rattle.queues.specs.Queues.{two, movedUp}
 use Rattle.card.specs.Packets.{pageAt, malformed, pageShape, destination, storable}
 use Rattle.card.specs.Moves.{inPacket}
@@ -128,20 +129,41 @@ holderAfter (Nak r) g = enquired (cancelled g) true
 holderAfter (Delivered r s) g = sent (heard (cancelled g) false) true
 holderAfter (Unacknowledged r s stored) g = sent (heard (cancelled g) false) false
 
--- the holder's registers before and after the step: what happened to them and no more, and so TA, TMA, TTA and byte 13. TA is 1 where no second waits after the
--- cancels, else the second has moved up; "the status of the first kept": TMA stays with TTA
+-- C-16: the NAKs to the transmit that waits, m of them before: one more, or none where it ended
+abbrev pub outcomeNaks : Outcome → ℕ → ℕ
+outcomeNaks Nothing m = m
+outcomeNaks Malformed m = 0
+outcomeNaks (Broadcast s) m = 0
+outcomeNaks NoAnswer m = 0
+outcomeNaks (Nak r) m = m + 1
+outcomeNaks (Delivered r s) m = 0
+outcomeNaks (Unacknowledged r s stored) m = 0
+
+-- the holder's registers before and after the step: what happened to them and no more, and so TA, TMA, TTA, byte 13 and the count of NAKs. TA is 1 where no second
+-- waits after the cancels, else the second has moved up; "the status of the first kept": TMA stays with TTA
 pub record HolderLeft (before after : Regs) (o : Outcome) : Type 0 where
   pub registers : after ≡ holderAfter o before
   pub ta : has TA (after .status) ≡ (outcomeTA o && not (two Transmit (cancelled before .transmit)))
   pub tma : has TMA (after .status) ≡ pick (tta before) (has TMA (before .status)) (outcomeTMA o (has TMA (before .status)))
   pub page : outcomeTA o ≡ true → after .transmit .oldest ≡ movedUp Transmit (cancelled before .transmit)
   pub told : tta after ≡ (tta before || chaining before && completes o)
+  pub counted : naks after ≡ upToLimit (outcomeNaks o (naks (cancelled before)))
 
 -- in a row with CCHEN 0: "wherever TA becomes 1, byte 13 becomes zero"
 pub record PlainLeft (before after : Regs) (o : Outcome) : Type 0 where
   pub ta : has TA (after .status) ≡ outcomeTA o
   pub tma : has TMA (after .status) ≡ outcomeTMA o (has TMA (before .status))
   pub page : outcomeTA o ≡ true → after .transmit .oldest ≡ 0
+
+-- ---- C-16: the NAKs to the transmit that waits in row k, m of them before a step that answers so: a cancel that is asked of it ends it first
+abbrev pub stepNaks : List ℕ → ℕ → Answer → ℕ → ℕ
+stepNaks net k (Refused n) m = m
+stepNaks net k Quiet m = m
+stepNaks net k (Recovered r) m = m
+stepNaks net k (Passed r) m = m
+stepNaks net k (Unanswered i) m = m
+stepNaks net k TokenLost m = m
+stepNaks net k (Held o) m = pick (eqb k (holder net)) (outcomeNaks o (pick (has CANCEL (regsAt net k .transmit .oldest)) 0 m)) m
 
 -- ---- "A fault that meets no message of its kind does nothing": the messages of a fault-free step, by what it answers
 -- 1, a packet

@@ -18,21 +18,22 @@ use Rattle.registers.proofs.Values.Unqueued.{unqueued-fit}
 use Rattle.line.proofs.Change.Made.{row-fits}
 use Rattle.card.specs.Row.{registerBytes}
 use Rattle.card.specs.Packets.{pageAt}
-use Rattle.table.specs.Network.{Bytes, rows, phase, holder, LOST, PASS, regsAt, onLineAt, isNode, shape}
+use Rattle.table.specs.Network.{Bytes, rows, phase, holder, LOST, PASS, regsAt, onLineAt, shape}
 use Rattle.table.proofs.Folds.{seek-is}
-use Rattle.table.proofs.Online.Nodes.{node-of, node-online, node-id, nodeOf-found}
+use Rattle.table.proofs.Online.Nodes.{node-of, node-online, node-id}
 use Rattle.table.proofs.Shaped.Shapes.{shape-ids}
 use Rattle.table.proofs.Shaped.Alike.{bytes-rams}
 use Rattle.table.proofs.Access.Placed.{data-there, number-there}
 use Rattle.table.specs.Rows.{rowAt}
 use Rattle.line.specs.declared.traffic.Outcome.the-variants.{Broadcast, Delivered}
 use Rattle.line.specs.Step.{step}
-use Rattle.line.specs.Outcomes.{sentPage, sentTo, addressee, stores, holderBytes, rowMoves}
+use Rattle.line.specs.Outcomes.{sentPage, sentTo, stores, holderBytes, rowMoves}
 use Rattle.line.proofs.Steps.Stepped.{held-row}
 use Rattle.line.proofs.Steps.StepBy.{sound-step}
 use Rattle.line.proofs.Promised.Bystanding.{fills}
 use Rattle.line.proofs.Promised.TheHolder.{packet-reached}
 use Rattle.line.proofs.Promised.EveryRow.{step-moves, held-taken, not-own-packet}
+use Rattle.line.proofs.Promised.Who.{found-answers}
 use Rattle.orders.specs.Form.{records, idAt, nameAt}
 use Rattle.desk.proofs.Loads.Loaded.{loaded-rows, loaded-row}
 use Rattle.promises.specs.Station.{Stored, RamKept, StoredOrKept, Deliveries, Broadcasts, FromTheOrder}
@@ -97,32 +98,28 @@ pub stored-or-kept : StoredOrKept
 stored-or-kept net bytes s fault j l = (stored net bytes s fault j l, kept net bytes s fault j l)
 
 pub deliveries : Deliveries
-deliveries net bytes s fault e =
+deliveries net bytes s fault to shape e =
     let b = bytes-rams net s bytes in
-    let r = packet-reached net (held-taken net s fault Delivered e) s b fault Delivered e in
-    let to = addressee net in
-    let n : (sentTo net ≡ 0 → ⊥) = r .0 in
-    let found = nodeOf-found net (sentTo net) (holder net) (rows net) in
-    let f : (isNode net (sentTo net) to ≡ true) × (to ≡ holder net → ⊥) = rw (ne-eqb (sentTo net) 0 n) (found (rw (ne-eqb (sentTo net) 0 n) at (r .1 .0))) in
+    let r = packet-reached net (held-taken net s fault (Delivered to shape) e) s b fault (Delivered to shape) e in
+    let f = found-answers net to (r .0) in
     record {
-      there = r .1 .0;
-      carries = f .0;
-      alone = λ j l c. shape-ids net s j to l (r .1 .0) (node-online net j _ c) (node-online net to _ (f .0)) (node-id net j _ c ∙ sym (node-id net to _ (f .0)));
-      away = f .1;
-      stored = stored net bytes s fault to (r .1 .0) (r .1 .1 to ∙ eq-eqb to to refl);
+      there = f .there;
+      carries = f .carries;
+      alone = λ j l c. shape-ids net s j to l (f .there) (node-online net j _ c) (node-online net to _ (f .carries)) (node-id net j _ c ∙ sym (node-id net to _ (f .carries)));
+      away = f .other;
+      stored = stored net bytes s fault to (f .there) (r .1 .1 to ∙ eq-eqb to to refl);
       others = λ j l d. kept net bytes s fault j l (r .1 .1 j ∙ ne-eqb j to d);
     }
 
 pub broadcasts : Broadcasts
-broadcasts net bytes s fault e j l =
+broadcasts net bytes s fault shape e j l =
     let b = bytes-rams net s bytes in
-    let r = packet-reached net (held-taken net s fault Broadcast e) s b fault Broadcast e j l in
+    let r = packet-reached net (held-taken net s fault (Broadcast shape) e) s b fault (Broadcast shape) e .1 j l in
     (λ t. stored net bytes s fault j l (r ∙ t), λ t. kept net bytes s fault j l (r ∙ t))
 
 pub from-the-order : FromTheOrder
-from-the-order order lent net z same bytes s fault e =
-    let d = deliveries net bytes s fault e in
-    let to = addressee net in
+from-the-order order lent net z same bytes s fault to shape e =
+    let d = deliveries net bytes s fault to shape e in
     let count : rows net ≡ records order = same .count ∙ loaded-rows order lent z in
     -- row k has record k's ID
     let has : (k : ℕ) → k < records order → (onLineAt net k ≡ true) × (regsAt net k .id ≡ idAt order k)

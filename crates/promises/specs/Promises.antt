@@ -9,7 +9,9 @@ use lib.ListN.{length, getD}
 use Rattle.bits.specs.Words.{among}
 use Rattle.registers.specs.Layout.{at-diagnostic, readChanges}
 use Rattle.registers.specs.Sides.{chaining}
+use Rattle.registers.specs.Naks.{naks}
 use Rattle.registers.specs.Plain.{Plain}
+use Rattle.registers.specs.Unrefused.{Unrefused}
 use Rattle.told.specs.Numbers.{ALONE, ROOM, numbers, Refusal, _when_, told, rises, Smallest}
 use Rattle.card.specs.Packets.{shapeOf, dataBytes, CanBeSent, malformed}
 use Rattle.card.specs.Moves.{OnlyAt}
@@ -19,7 +21,7 @@ use Rattle.table.specs.Rows.{headerBytes, rowAt}
 use Rattle.table.specs.Network.{rows, phase, holder, Bytes, TAKEN, regsAt, shape, SameFrame, OnlyRow, LOST, onLineAt}
 use Rattle.table.specs.Calls.{placeRefusals, placeNumber, netReadRefusals, netReading, netAfterRead, netWriteRefusals, netWriteNumber, netWriteMoves, netAfterWrite, resetMoves, netAfterReset, timerRefusals, timerNumber, netAfterTimer, netInterrupt, netData, netDataRefusals, netDataNumber, freshRefusals, freshNumber, netAfterFresh}
 use Rattle.line.specs.Step.{stepRefusals, step, answerNumber, answerValue, highest}
-use Rattle.line.specs.Outcomes.{stores, rowMoves, HolderLeft, PlainLeft, meets}
+use Rattle.line.specs.Outcomes.{stores, rowMoves, Named, HolderLeft, PlainLeft, meets}
 use Rattle.desk.specs.declared.laps.Taker.{Taker}
 use Rattle.orders.specs.Form.{records, orderFits, idAt}
 use Rattle.orders.specs.Check.{recordRefusals, recordNumbers, recordNumber, checked}
@@ -126,17 +128,26 @@ pub record NoOtherByte : Type 0 where
   pub step-row : (net : List ℕ) → Bytes net → shape net ≡ true → (fault j : ℕ) → j < rows net
       → OnlyAt (rowMoves net (stores net fault j) j) (rowAt net j) (rowAt (step net fault .after) j)
 
--- ---- the values that document 01 and C-11 give for each outcome: all the holder's registers after a step that answers Held, and so TA, TMA, TTA and byte 13; in a row
--- with CCHEN 0 as document 01 alone gives them
+-- ---- the values that document 01, C-11 and C-16 give for each outcome: all the holder's registers after a step that answers Held, and so TA, TMA, TTA, byte 13 and the
+-- count of NAKs; in a row with CCHEN 0 as document 01 alone gives TA, TMA and byte 13
 abbrev pub OutcomesSay : Type 0
 OutcomesSay =
     (net : List ℕ) → Bytes net → shape net ≡ true → phase net ≡ TAKEN → (fault : ℕ) (o : Outcome) → step net fault .answer ≡ Held o
     → HolderLeft (regsAt net (holder net)) (regsAt (step net fault .after) (holder net)) o
     × (chaining (regsAt net (holder net)) ≡ false → PlainLeft (regsAt net (holder net)) (regsAt (step net fault .after) (holder net)) o)
 
--- ---- C-11, "Statements about rows with CCHEN 0 read as before": of such a row each definition of a card is document 01's
+-- ---- C-11, "Statements about rows with CCHEN 0 read as before": of such a row each definition of a card is document 01's, with C-16
 abbrev pub PlainRows : Type 0
 PlainRows = (net : List ℕ) → shape net ≡ true → (k : ℕ) → k < rows net → chaining (regsAt net k) ≡ false → Plain (regsAt net k)
+
+-- ---- C-16, "ACK and NAK shall name the answering row": the row that an answer names is on line, carries the packet's DID and is not the sender; and the shape of a
+-- packet that went, and whether it was stored
+abbrev pub WhoAnswered : Type 0
+WhoAnswered = (net : List ℕ) → Bytes net → shape net ≡ true → (fault : ℕ) (o : Outcome) → step net fault .answer ≡ Held o → Named net fault o
+
+-- a row that no NAK is counted of is as it was without C-16
+abbrev pub UnrefusedRows : Type 0
+UnrefusedRows = (net : List ℕ) → Bytes net → shape net ≡ true → (k : ℕ) → k < rows net → naks (regsAt net k) ≡ 0 → Unrefused (regsAt net k)
 
 -- ---- "A fault that meets no message of its kind does nothing"
 abbrev pub IdleFaults : Type 0

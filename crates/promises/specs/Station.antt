@@ -8,6 +8,7 @@ use lib.Dec.{eqb}
 use lib.ListN.{getD}
 use Rattle.registers.specs.Events.{received, receiving, takesBroadcasts, receivePage}
 use Rattle.registers.specs.Sides.{chaining}
+use Rattle.card.specs.declared.packets.Shape.{Shape}
 use Rattle.card.specs.Row.{registerBytes}
 use Rattle.card.specs.Packets.{pageAt, storable}
 use Rattle.card.specs.Moves.{Holds}
@@ -19,7 +20,7 @@ use Rattle.line.specs.declared.traffic.Outcome.the-variants.{Broadcast, Deliver
 use Rattle.line.specs.declared.step.Answer.the-variants.{Held}
 use Rattle.line.specs.Traffic.{damaged}
 use Rattle.line.specs.Step.{step}
-use Rattle.line.specs.Outcomes.{sender, sentPage, sentShape, sentTo, addressee, stores}
+use Rattle.line.specs.Outcomes.{sender, sentPage, sentShape, sentTo, stores}
 use Rattle.orders.specs.Form.{records, idAt, nameAt}
 use Rattle.desk.specs.Load.{loadNumber, netAfterLoad}
 
@@ -45,7 +46,7 @@ StoredOrKept =
     (net : List ℕ) → Bytes net → shape net ≡ true → (fault j : ℕ) → j < rows net
     → (stores net fault j ≡ true → Stored net (step net fault .after) j) × (stores net fault j ≡ false → RamKept net (step net fault .after) j)
 
--- ---- Held(Delivered): the row that carries the DID stored it, and no other row
+-- ---- Held(Delivered): the row that it names carries the DID and stored it, and no other row did
 pub record RightStation (net new : List ℕ) (to : ℕ) : Type 0 where
   pub there : to < rows net
   pub carries : isNode net (sentTo net) to ≡ true
@@ -56,7 +57,7 @@ pub record RightStation (net new : List ℕ) (to : ℕ) : Type 0 where
 
 abbrev pub Deliveries : Type 0
 Deliveries =
-    (net : List ℕ) → Bytes net → shape net ≡ true → (fault : ℕ) → step net fault .answer ≡ Held Delivered → RightStation net (step net fault .after) (addressee net)
+    (net : List ℕ) → Bytes net → shape net ≡ true → (fault : ℕ) → (r : ℕ) (s : Shape) → step net fault .answer ≡ Held (Delivered r s) → RightStation net (step net fault .after) r
 
 -- ---- Held(Broadcast): "every other awake row, on line or not, with RI = 0 and broadcasts wanted stores it"; "a long packet at a row with long packets 0, or
 -- fault 1, stores nothing there"
@@ -65,7 +66,7 @@ takesIt net fault j = not (damaged fault) && (not (eqb j (holder net)) && takesB
 
 abbrev pub Broadcasts : Type 0
 Broadcasts =
-    (net : List ℕ) → Bytes net → shape net ≡ true → (fault : ℕ) → step net fault .answer ≡ Held Broadcast → (j : ℕ) → j < rows net
+    (net : List ℕ) → Bytes net → shape net ≡ true → (fault : ℕ) → (s : Shape) → step net fault .answer ≡ Held (Broadcast s) → (j : ℕ) → j < rows net
     → (takesIt net fault j ≡ true → Stored net (step net fault .after) j) × (takesIt net fault j ≡ false → RamKept net (step net fault .after) j)
 
 -- ---- from the order: the name of the record that has an ID
@@ -83,4 +84,4 @@ pub record OfOrder (order : List ℕ) (id k : ℕ) : Type 0 where
 abbrev pub FromTheOrder : Type 0
 FromTheOrder =
     (order lent net : List ℕ) → loadNumber order lent ≡ 0 → SameNodes (netAfterLoad order lent) net → Bytes net → shape net ≡ true → (fault : ℕ)
-    → step net fault .answer ≡ Held Delivered → OfOrder order (sentTo net) (addressee net)
+    → (r : ℕ) (s : Shape) → step net fault .answer ≡ Held (Delivered r s) → OfOrder order (sentTo net) r

@@ -151,15 +151,16 @@ pub fn interrupting(interrupting: Interrupting) -> Told {
     }
 }
 
-fn held(outcome: Outcome) -> usize {
+// C-16: an outcome names the row that answered the enquiry.
+fn held(outcome: Outcome) -> Told {
     match outcome {
-        Outcome::Nothing => HELD,
-        Outcome::Malformed => HELD + 1,
-        Outcome::Broadcast => HELD + 2,
-        Outcome::NoAnswer => HELD + 3,
-        Outcome::Nak => HELD + 4,
-        Outcome::Delivered => HELD + 5,
-        Outcome::Unacknowledged => HELD + 6,
+        Outcome::Nothing => worded(HELD),
+        Outcome::Malformed => worded(HELD + 1),
+        Outcome::Broadcast(_) => worded(HELD + 2),
+        Outcome::NoAnswer => worded(HELD + 3),
+        Outcome::Nak(row) => valued(HELD + 4, row),
+        Outcome::Delivered(row, _) => valued(HELD + 5, row),
+        Outcome::Unacknowledged(row, _, _) => valued(HELD + 6, row),
     }
 }
 
@@ -171,7 +172,7 @@ pub fn step(answer: Answer) -> Told {
         Answer::Passed(row) => valued(PASSED, row),
         Answer::Unanswered(id) => valued(UNANSWERED, id as usize),
         Answer::TokenLost => worded(TOKENLOST),
-        Answer::Held(outcome) => worded(held(outcome)),
+        Answer::Held(outcome) => held(outcome),
     }
 }
 

@@ -11,6 +11,7 @@ pub mod KeepsCalls
 pub mod Unqueued
 pub mod Chained
 pub mod Ahead
+pub mod Counts
 pub mod Ends
 pub mod Listens
 pub mod Loads

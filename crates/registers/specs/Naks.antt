@@ -1,12 +1,15 @@
 -- C-16, "Who refused": the NAKs to one Enable, which the sender counts, and EXCNAK.
 -- Assumes nothing.
-use mathlib.Core.Bool.{Bool, _||_}
+use mathlib.Core.Bool.{Bool, false, _&&_, _||_}
 use mathlib.Core.List.{List, [], _∷_}
 use Prim.Native.Nat.{ℕ, _+_, _*_}
 use lib.Dec.{eqb, leb, ltb}
 use Rattle.registers.specs.declared.regs.Regs.{Regs}
+use Rattle.commands.specs.declared.commands.Command.{Command}
+use Rattle.commands.specs.declared.commands.Command.the-variants.{Illegal, Disable, Enable, LongPackets, ClearFlags, Clear}
 use Rattle.bits.specs.Words.{pick, clear, has, raiseIf, lower}
-use Rattle.bits.specs.Flags.{TA, EXCNAK}
+use Rattle.bits.specs.Flags.{TA, EXCNAK, RESET}
+use Rattle.commands.specs.Commands.{commandOf}
 use Rattle.registers.specs.Fields.{with-diagnostic, with-naks}
 
 -- "the number that document 000's diagnostic table gives"
@@ -35,6 +38,18 @@ nakCounted g = with-diagnostic (raiseIf (eqb (nextNaks g) nakLimit) EXCNAK (g .d
 abbrev pub naksDropped : Bool → Regs → Regs
 naksDropped b g =
     with-diagnostic (pick b (lower EXCNAK (g .diagnostic)) (g .diagnostic)) (with-naks (pick b 0 (g .later .naklow)) (pick b 0 (g .later .nakhigh)) g)
+
+-- the writes that do so: "Clear Flags with bit 3 or reset"
+abbrev pub dropsCommand : Command → Bool
+dropsCommand Illegal = false
+dropsCommand (Disable w) = false
+dropsCommand (Enable w entry) = false
+dropsCommand (LongPackets l) = false
+dropsCommand (ClearFlags p r) = p
+dropsCommand (Clear w) = false
+
+abbrev pub dropsNaks : ℕ → ℕ → Bool
+dropsNaks k v = eqb k 1 && dropsCommand (commandOf v) || eqb k 6 && has RESET v
 
 -- the count is at most the number, is not 0 only with TA 0, and EXCNAK is 1 exactly when it is the number
 abbrev pub nakRules : Regs → List Bool

@@ -10,5 +10,6 @@ pub mod Writes
 pub mod Calm
 pub mod Others
 pub mod Ahead
+pub mod Counts
 pub mod Refused
 pub mod Rising

@@ -47,6 +47,10 @@ pub id-byte : (r : List ℕ) → Small r → regsOf r .id < 256
 unfolding regsOf
 id-byte r b = b 2
 
+pub diagnostic-byte : (r : List ℕ) → Small r → regsOf r .diagnostic < 256
+unfolding regsOf
+diagnostic-byte r b = b 4
+
 module _ (r : List ℕ) (b : Ram r) where
   pub packet-bytes : (p : ℕ) → Small (packetAt r p .bytes)
   unfolding packetAt

@@ -27,7 +27,7 @@ module _ (r : List ℕ) (l : Whole r) (k : ℕ) where
   same-row = rw regs-read (same-then (regsOf r) (afterRead (regsOf r) k) _ (same-read (regsOf r) k) (same-fetched (afterRead (regsOf r) k) _))
 
   module _ (v : ℕ) where
-    regs-write : regsOf (rowAfterWrite r k v) ≡ fetched (writeFetches k) (ramAt (ramWritten r k (pointed r) v) (afterWrite (regsOf r) k v)) (afterWrite (regsOf r) k v)
+    pub regs-write : regsOf (rowAfterWrite r k v) ≡ fetched (writeFetches k) (ramAt (ramWritten r k (pointed r) v) (afterWrite (regsOf r) k v)) (afterWrite (regsOf r) k v)
     unfolding rowAfterWrite
     regs-write = regs-put (ramWritten r k (pointed r) v) _ (omega (arith, whole-registers r l, size-ram r k (pointer (regsOf r)) v .long))
 

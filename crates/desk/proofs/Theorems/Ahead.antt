@@ -1,12 +1,12 @@
 -- C-13: a read of register 4 answers the fetched byte, which a load, an incremented read and a hardware reset of the row set, and no other call.
 -- Assumes nothing.
 use mathlib.Core.Path.{_≡_, refl, sym, _∙_, ap}
-use mathlib.Core.Bool.{Bool, true, false, not, _&&_, _||_, true≢false}
+use mathlib.Core.Bool.{Bool, true, false, not, _&&_, true≢false}
 use mathlib.Core.List.{List, [], _∷_}
 use mathlib.Core.Logic.{⊎-elim}
-use Prim.Native.Nat.{ℕ, zero, suc, _+_, _≤_, _<_}
+use Prim.Native.Nat.{ℕ, zero, suc, _<_}
 use native.Mathlib.Omega.{arith}
-use lib.Dec.{eqb}
+use lib.Dec.{eqb, lit<}
 use lib.ListN.{getD}
 use borrow.Author.Tests.{eqb-true, eqb-false, ne-eqb}
 use Rattle.bits.specs.Words.{among}
@@ -16,57 +16,35 @@ use Rattle.registers.specs.Registers.{writeFetches, afterWrite}
 use Rattle.registers.specs.Sides.{chaining}
 use Rattle.bits.proofs.Words.Bools.{cases, and-false, pick-of}
 use Rattle.registers.proofs.Values.Ahead.{read-unfetched, write-unfetched}
-use Rattle.card.specs.declared.packets.Shape.{Shape}
-use Rattle.card.specs.Row.{registerBytes}
 use Rattle.card.specs.Access.{pointed}
-use Rattle.card.specs.Packets.{dataAt, pageAt}
-use Rattle.card.specs.Moves.{inPacket}
-use Rattle.registers.specs.Events.{receivePage}
-use Rattle.card.proofs.Rows.Bytes.{not-leb}
-use Rattle.card.proofs.Pages.Places.{page-behind}
 use Rattle.table.specs.Rows.{rowAt}
-use Rattle.table.specs.Network.{rows, phase, holder, LOST, PASS, regsAt, onLineAt, OnlyRow}
+use Rattle.table.specs.Network.{rows, regsAt, onLineAt, OnlyRow}
 use Rattle.table.specs.Calls.{netWriteMoves, netAfterWrite}
 use Rattle.table.proofs.Shaped.Alike.{Good, bytes-rams}
 use Rattle.table.proofs.Access.Placed.{row-placed}
 use Rattle.table.proofs.Access.Others.{read-only, write-only, reset-only, timer-only}
 use Rattle.table.proofs.Access.Ahead.{reading-fetched, read-on, reads-again, load-unrefused, loads, resets}
 use Rattle.line.specs.Step.{step}
-use Rattle.line.specs.Outcomes.{sentPage, sentShape, stores, holderBytes, storingBytes, rowMoves}
+use Rattle.line.specs.Outcomes.{stores, holderBytes, storingBytes, rowMoves}
 use Rattle.line.proofs.Promised.EveryRow.{step-moves}
+use Rattle.line.proofs.Promised.Still.{unmoved}
 use Rattle.desk.specs.Lap.{after, lapSteps, runs, netAfterLap}
 use Rattle.desk.specs.Host.{Call, At, Read, Write, Reset, Timer, Interrupt, Data, DataNumber, Step, Lap, called, table}
 use Rattle.desk.specs.Ahead.{fetchedAt, sets, NoneSets, ReadsAhead}
 use Rattle.desk.proofs.Lapping.Shuffled.{good-step}
 use Rattle.desk.proofs.Theorems.Shuffling.{good-called}
 
--- ---- the fetched byte is no byte of the RAM
-no-ram : (a : ℕ) → registerBytes ≤ a → eqb at-fetched a ≡ false
-no-ram a h = ne-eqb at-fetched a (λ e. omega (arith, h, e))
-
-no-packet : (a : ℕ) (s : Shape) → registerBytes ≤ a → inPacket a s at-fetched ≡ false
-no-packet a s h = rw (not-leb a at-fetched (omega (arith, h)), not-leb (a + dataAt s) at-fetched (omega (arith, h)))
-
--- ---- nor a byte that a step may move
-abbrev No : Bool → Type 0
-No x = x ≡ false
-
+-- ---- the fetched byte is no byte that a step may move
 step-unfetched : (net : List ℕ) (storing : Bool) (k : ℕ) → rowMoves net storing k at-fetched ≡ false
-step-unfetched net storing k =
-    let r = rowAt net k in
-    pick-of No (eqb (phase net) LOST) (λ _. refl)
-    (λ _. pick-of No (eqb (phase net) PASS) (λ _. and-false (eqb k (holder net)))
-    (λ _. pick-of No (eqb k (holder net)) (λ _. rw (no-ram (pageAt r (sentPage net)) (page-behind r (sentPage net))) (held (chaining (regsAt net k))))
-    (λ _. rw (no-packet (pageAt r (receivePage (regsAt net k))) (sentShape net) (page-behind r (receivePage (regsAt net k)))) (aside storing (chaining (regsAt net k))))))
+step-unfetched net storing k = unmoved at-fetched (lit< tt) refl aside net storing k (λ _ _ _. held (chaining (regsAt net k)))
   where
-    held : (c : Bool) → No (among (holderBytes c) at-fetched || false)
+    held : (c : Bool) → among (holderBytes c) at-fetched ≡ false
     held true = refl
     held false = refl
 
-    aside : (b c : Bool) → No (b && (among (storingBytes c) at-fetched || false))
-    aside true true = refl
-    aside true false = refl
-    aside false c = refl
+    aside : (c : Bool) → among (storingBytes c) at-fetched ≡ false
+    aside true = refl
+    aside false = refl
 
 -- ---- a step, the steps of a lap, and every call that does not set it
 module _ {n : ℕ} (k : ℕ) (l : k < n) where
@@ -90,7 +68,7 @@ module _ {n : ℕ} (k : ℕ) (l : k < n) where
 
     write-kept : (r v : ℕ) → writeFetches r ≡ false → netWriteMoves net k r v at-fetched ≡ false
     write-kept r v e =
-        rw (write-unfetched (regsAt net k) r e, no-ram (pointed (rowAt net k)) (omega arith), and-false (eqb r 4))
+        rw (write-unfetched (regsAt net k) r e, ne-eqb at-fetched (pointed (rowAt net k)) (λ i. omega (arith, i)), and-false (eqb r 4))
         (and-false (not (onLineAt net k) && onLine (afterWrite (regsAt net k) r v)))
 
     call-kept : (c : Call) → sets k c net ≡ false → fetchedAt (called c net) k ≡ fetchedAt net k

@@ -68,7 +68,7 @@ module _ (net : List ℕ) (s : shape net ≡ true) where
       none true true true true e = and-false e
 
 -- ---- Held is answered in TAKEN alone
-abbrev held : Answer → Bool
+abbrev pub held : Answer → Bool
 held (Refused n) = false
 held Quiet = false
 held (Recovered r) = false
@@ -87,3 +87,9 @@ held-taken net s fault o e =
     (λ _. pick-of P (destroyed fault) (λ _ f. absurd (false≢true f)) (λ _. pick-of P (ltb (taker net) (rows net)) (λ _ f. absurd (false≢true f)) (λ _ f. absurd (false≢true f))))
     (λ q _. omega (arith, shape-phase net s, eqb-false (phase net) LOST l, eqb-false (phase net) PASS q))))
     (λ _ f. absurd (false≢true f)) (ap held e)
+
+-- and in TAKEN what is not Held is a refusal
+pub unheld-taken : (net : List ℕ) (fault : ℕ) → phase net ≡ TAKEN → held (step net fault .answer) ≡ false → step net fault .after ≡ net
+unfolding step stepTurn
+unheld-taken net fault p =
+    pick-of (λ (t : Turn Answer). held (t .answer) ≡ false → t .after ≡ net) (eqb (stepNumber net fault) 0) (λ _. rw p (λ n. absurd (false≢true (sym n)))) (λ _ _. refl)

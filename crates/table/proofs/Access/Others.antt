@@ -59,8 +59,7 @@ module _ (net : List ℕ) (s : shape net ≡ true) (k : ℕ) (l : k < rows net) 
   only-burst r w = only-put (at-diagnostic ∷ []) r _ (whole-registers r w) (keeps-burst _ (regsOf r) refl)
 
   -- a row that is given other bytes, and settles
-  module _ (r : List ℕ) (e : SameSize row r) (moves : ℕ → Bool) (o : OnlyAt moves row r)
-      (bursts : onLineAt net k ≡ false → onLine (regsOf r) ≡ true → (i : ℕ) → moves i ≡ false → eqb i at-diagnostic ≡ false) where
+  module _ (r : List ℕ) (e : SameSize row r) where
     abbrev new : List ℕ
     new = setRow net k r
 
@@ -72,14 +71,21 @@ module _ (net : List ℕ) (s : shape net ≡ true) (k : ℕ) (l : k < rows net) 
         rowAt-turned _ LOST 0 k
         ∙ rowAt-setRow new (rows net) (frame-within (setRow-frame net (rows net) inside k l r e) inside) k l _ (size-put (rowAt new k) _) ∙ ap (onRegs burst) is
 
-    only-settled : OnlyAt moves row (rowAt (settled new k (onLineAt net k)) k)
+    -- it keeps what it was given, or bursts where it comes on line
+    settles : (P : List ℕ → Type 0) → P r → (onLineAt net k ≡ false → onLine (regsOf r) ≡ true → P (onRegs burst r)) → P (rowAt (settled new k (onLineAt net k)) k)
     unfolding settled onLineAt
-    only-settled =
-        let P : List ℕ → Type 0 = λ x. OnlyAt moves row (rowAt x k) in
-        pick-of P (onLine (regsAt new k))
-        (λ t. pick-of P (onLine (regsAt net k)) (λ _. rw is o)
-        (λ f. rw burst-row (only-then row r _ o (only-wider r _ (λ i m. rw (bursts f (rw is at t) i m)) (only-burst r (size-whole e whole))))))
-        (λ _. pick-of P (onLine (regsAt net k) && isHolder new k) (λ _. rw (rowAt-turned new LOST 0 k, is) o) (λ _. rw is o))
+    settles P same bursts =
+        let Q : List ℕ → Type 0 = λ x. P (rowAt x k) in
+        pick-of Q (onLine (regsAt new k)) (λ t. pick-of Q (onLine (regsAt net k)) (λ _. rw is same) (λ f. rw burst-row (bursts f (rw is at t))))
+        (λ _. pick-of Q (onLine (regsAt net k) && isHolder new k) (λ _. rw (rowAt-turned new LOST 0 k, is) same) (λ _. rw is same))
+
+    pub settled-keeps : OnlyAt (among (at-diagnostic ∷ [])) r (rowAt (settled new k (onLineAt net k)) k)
+    settled-keeps = settles (OnlyAt (among (at-diagnostic ∷ [])) r) (only-stays _ r) (λ _ _. only-burst r (size-whole e whole))
+
+    only-settled : (moves : ℕ → Bool) → OnlyAt moves row r → (onLineAt net k ≡ false → onLine (regsOf r) ≡ true → (i : ℕ) → moves i ≡ false → eqb i at-diagnostic ≡ false)
+        → OnlyAt moves row (rowAt (settled new k (onLineAt net k)) k)
+    only-settled moves o bursts =
+        settles (OnlyAt moves row) o (λ f t. only-then row r _ o (only-wider r _ (λ i m. rw (bursts f t i m)) (only-burst r (size-whole e whole))))
 
   -- ---- the calls
   read-row : (g : ℕ) → OnlyAt (among (readChanges (regsAt net k) g)) row (rowAt (netAfterRead net k g) k)

@@ -22,7 +22,7 @@ use Rattle.table.proofs.Shaped.Kept.{Became}
 use Rattle.table.proofs.Shaped.Became.{Moved, became-rows, shape-moved, moved-online}
 
 -- ---- the bytes of a network are bytes, and so are those of a row
-bytes-row : (net : List ℕ) → shape net ≡ true → Bytes net → (k : ℕ) → k < rows net → Small (rowAt net k)
+pub bytes-row : (net : List ℕ) → shape net ≡ true → Bytes net → (k : ℕ) → k < rows net → Small (rowAt net k)
 bytes-row net s b k l i =
     let e = length (rowAt net k) in
     ⊎-elim (λ (t : ltb i e ≡ true). rw (getD-rowAt net (rows net) (shape-room net s) k l i (ltb-true i e t)) (b (rowStart net k + i)))
