@@ -56,10 +56,10 @@ module _ (net : List ℕ) (s : shape net ≡ true) (b : Rams net) (fault k : ℕ
   -- a row that does not hold the token, or a step in another phase
   aside : (phase net ≡ TAKEN → k ≡ holder net → ⊥) → naks (regsAt new k) ≡ naks (regsAt net k)
   aside n =
-      let not-mine : {x : Bool} → eqb (phase net) LOST ≡ false → eqb (phase net) PASS ≡ false → eqb k (holder net) ≡ true → x ≡ false
-      = λ t p h. absurd (n (omega (arith, shape-phase net s, eqb-false (phase net) LOST t, eqb-false (phase net) PASS p)) (eqb-true k (holder net) h)) in
+      let not-mine : (x : Bool) → eqb (phase net) LOST ≡ false → eqb (phase net) PASS ≡ false → eqb k (holder net) ≡ true → x ≡ false
+      = λ x t p h. absurd (n (omega (arith, shape-phase net s, eqb-false (phase net) LOST t, eqb-false (phase net) PASS p)) (eqb-true k (holder net) h)) in
       naks-kept (rowAt net k) (rowAt new k) (step-moves net s b fault k l)
-      (unmoved at-nak-low (lit< tt) refl low net (stores net fault k) k not-mine) (unmoved at-nak-high (lit< tt) refl high net (stores net fault k) k not-mine)
+      (unmoved at-nak-low (lit< tt) refl low net (stores net fault k) k (not-mine _)) (unmoved at-nak-high (lit< tt) refl high net (stores net fault k) k (not-mine _))
 
   module _ (m : ℕ) (e : naks (regsAt net k) ≡ upToLimit m) where
     -- an answer that is not Held
@@ -73,7 +73,7 @@ module _ (net : List ℕ) (s : shape net ≡ true) (b : Rams net) (fault k : ℕ
         let g = regsAt net k in
         let c : naks (cancelled g) ≡ upToLimit (pick (has CANCEL (g .transmit .oldest)) 0 m) =
         naks-cancelled g ∙ pick-both (λ (x y : ℕ). x ≡ upToLimit y) (has CANCEL (g .transmit .oldest)) refl e in
-        rw h at (holder-left net (held-taken net s fault o a) s b fault o a .counted)
+        rw (← h) at (holder-left net (held-taken net s fault o a) s b fault o a .counted)
         ∙ ap (λ (x : ℕ). upToLimit (outcomeNaks o x)) c ∙ again o (pick (has CANCEL (g .transmit .oldest)) 0 m)
 
     by : (a : Answer) → step net fault .answer ≡ a → naks (regsAt new k) ≡ upToLimit (stepNaks net k a m)

@@ -75,9 +75,10 @@ module _ {n : ℕ} (q : Shuffle n) where
         packet-shuffled : (t : ℕ) → Same (packetTurn net h p fault t) (packetTurn (shuffled q net) (q .to h) p fault (q .to t))
         unfolding packetTurn
         packet-shuffled t =
-            let x : List ℕ = shuffled q (onRow (wentOut net h p fault t false) h (does (Ends true (acknowledged net h p fault t)))) in
+            let told : Outcome → Turn Outcome
+            = λ o. record { answer = o; after = shuffled q (onRow (wentOut net h p fault t false) h (does (Ends true (acknowledged net h p fault t)))) } in
             rw (row h, row t, went-shuffled t false, own _ (good-went t false) (Ends true (acknowledged net h p fault t)))
-            (pick-both (λ (o u : Outcome). record { answer = o; after = x } ≡ record { answer = outcomeTo (q .to) u; after = x }) (acknowledged net h p fault t) refl refl)
+            (pick-both (λ (o u : Outcome). told o ≡ told (outcomeTo (q .to) u)) (acknowledged net h p fault t) refl refl)
 
         enquiry-shuffled : (t : ℕ) → Same (enquiryTurn net h p fault t) (enquiryTurn (shuffled q net) (q .to h) p fault (q .to t))
         unfolding enquiryTurn

@@ -1,7 +1,8 @@
 -- `line::traffic::deliver` meets its contract. Assumes nothing.
+use mathlib.Core.Path.{refl}
 use native.Mathlib.Omega.{arith}
 use Rattle.table.proofs.Shaped.Shapes.{shape-within}
-use Rattle.line.proofs.Turn.Outcomes.{ack-is, delivered}
+use Rattle.line.proofs.Turn.Outcomes.{arrives-is, delivered}
 use Rattle.line.proofs.Turn.Sends.{went-bounds}
 use borrow.Author.Needs.{needs}
 use Rattle.line.proofs.traffic.deliver.Statement.{statement}
@@ -36,8 +37,8 @@ returns c =
     let g = b .before in
     let w = g .before .before in
     let a = w .before .before .before .before .args in
-    let k = ack-is (a .net .now) (a .h) (a .page) (a .fault) (a .t) _ (w .before .row-at .ensures .0) _ (w .page-shape .ensures) _ (g .regs-at .ensures) _ (b .storable .ensures) in
-    let d = delivered (a .net .now) (a .h) (a .page) (a .fault) (a .t) _ k _ (s .send .ensures) _ (v .before .before .regs-at2 .ensures) _ (v .before .heard .ensures) _ (v .sent .ensures) _ (u .put-regs .ensures) in
+    let k = arrives-is (a .net .now) (a .h) (a .page) (a .fault) (a .t) _ (w .before .row-at .ensures .0) _ (w .page-shape .ensures) _ (g .regs-at .ensures) _ (b .storable .ensures) in
+    let d = delivered (a .net .now) (a .h) (a .page) (a .fault) (a .t) _ _ _ k refl _ (s .send .ensures) _ (v .before .before .regs-at2 .ensures) _ (v .before .heard .ensures) _ (v .sent .ensures) _ (u .put-regs .ensures) in
     (rw (c .if1 .taken) at (d .0), d .1)
 
 returns-2 : tie.Need-returns-2
@@ -49,8 +50,8 @@ returns-2 c =
     let g = b .before in
     let w = g .before .before in
     let a = w .before .before .before .before .args in
-    let k = ack-is (a .net .now) (a .h) (a .page) (a .fault) (a .t) _ (w .before .row-at .ensures .0) _ (w .page-shape .ensures) _ (g .regs-at .ensures) _ (b .storable .ensures) in
-    let d = delivered (a .net .now) (a .h) (a .page) (a .fault) (a .t) _ k _ (s .send .ensures) _ (v .before .before .regs-at2 .ensures) _ (v .before .heard .ensures) _ (v .sent .ensures) _ (u .put-regs .ensures) in
+    let k = arrives-is (a .net .now) (a .h) (a .page) (a .fault) (a .t) _ (w .before .row-at .ensures .0) _ (w .page-shape .ensures) _ (g .regs-at .ensures) _ (b .storable .ensures) in
+    let d = delivered (a .net .now) (a .h) (a .page) (a .fault) (a .t) _ _ _ k refl _ (s .send .ensures) _ (v .before .before .regs-at2 .ensures) _ (v .before .heard .ensures) _ (v .sent .ensures) _ (u .put-regs .ensures) in
     (rw (c .if1 .left) at (d .0), d .1)
 
 pub deliver-spec : {M : Type 1} → statement M
