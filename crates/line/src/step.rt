@@ -64,7 +64,7 @@ impl Answer {
             Answer::Passed(row) => row,
             Answer::Unanswered(id) => wide(id),
             Answer::TokenLost => 0,
-            Answer::Held(outcome) => outcome.row(),
+            Answer::Held(o) => o.row(),
         }
     }
 }
