@@ -5,7 +5,6 @@ use mathlib.Core.Bool.{Bool, false}
 use mathlib.Core.List.{List}
 use Prim.Native.Nat.{ℕ}
 use lib.Dec.{lit<}
-use Rattle.registers.specs.declared.regs.Regs.{Regs}
 use Rattle.registers.specs.Layout.{at-nak-low, at-nak-high}
 use Rattle.registers.specs.Naks.{lowFirst, naks}
 use Rattle.registers.specs.Registers.{afterWrite, hardwareReset}

@@ -1,7 +1,7 @@
 -- What the line does to a card's registers, and the row that is given them: kept, and with the NID that it had but for a recovery and a rise.
 -- Assumes nothing.
 use mathlib.Core.Path.{_≡_, _∙_, ap}
-use mathlib.Core.Bool.{Bool, true, false}
+use mathlib.Core.Bool.{Bool, true}
 use mathlib.Core.List.{List}
 use Prim.Native.Nat.{ℕ}
 use lib.Dec.{eqb}

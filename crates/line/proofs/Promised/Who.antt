@@ -1,6 +1,6 @@
 -- C-16: the row that an outcome names is on line, carries the packet's DID and is not the sender; and what it says of the packet.
 -- Assumes nothing.
-use mathlib.Core.Path.{_≡_, refl, sym, _∙_}
+use mathlib.Core.Path.{_≡_, refl, _∙_}
 use mathlib.Core.Bool.{true}
 use mathlib.Core.List.{List}
 use Prim.Native.Nat.{ℕ}

@@ -8,10 +8,9 @@ use lib.Dec.{eqb}
 use Rattle.bits.specs.declared.way.Way.the-variants.{Transmit, Receive}
 use Rattle.registers.specs.declared.regs.Regs.{Regs}
 use Rattle.bits.specs.Words.{pick, clear, has, raiseIf}
-use Rattle.bits.specs.Flags.{RECON, TA, MYRECON, DUPID, RCVACT, TOKEN, EXCNAK, TENTID, CANCEL, only, diagnosticBits}
+use Rattle.bits.specs.Flags.{RECON, TA, MYRECON, DUPID, RCVACT, TOKEN, EXCNAK, TENTID, CANCEL, diagnosticBits}
 use Rattle.registers.specs.Fields.{with-status, with-diagnostic, with-nid}
-use Rattle.queues.specs.Queues as queues
-use Rattle.registers.specs.Sides.{chaining, sideOf, withSide}
+use Rattle.registers.specs.Sides.{chaining, sideOf}
 use Rattle.registers.specs.Naks.{naks, nakCounted, naksDropped}
 use Rattle.registers.specs.Fit.{awake, onLine}
 use Rattle.registers.specs.Events.{burst, recovered, heard, answered, risenNid, received, transmitCancelled, receiveCancelled, cancelled, sent, enquired, transmitting}
