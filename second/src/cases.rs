@@ -1,5 +1,8 @@
 //! The fixed cases of document 01, "Sums to prove and sums to run", two of its "differ" for every pair
-//! of rows and of records (C-14), two of request C-12, one of C-11, three of C-13, and the sweeps.
+//! of rows and of records (C-14), two of request C-12, one of C-11, three of C-13, those of C-16, and the
+//! sweeps.
+
+mod naks;
 
 use crate::model::{Network, MOST_ROWS};
 use crate::order::{ORDER_MARK, RECORD};
@@ -16,7 +19,7 @@ enum Case {
     Sweep(fn(&mut dyn Peer) -> Result<(), String>),
 }
 
-const CASES: [(&str, Case); 15] = [
+const CASES: [(&str, Case); 21] = [
     ("one row refuses ALONE", Case::Lines(one_row)),
     ("60 rows load, 61 refuse", Case::Lines(sixty_and_one)),
     (
@@ -58,6 +61,30 @@ const CASES: [(&str, Case); 15] = [
     (
         "of bytes 20 to 63 of a row only 32 may hold anything",
         Case::Lines(byte_32_alone),
+    ),
+    (
+        "a step names the row that answered",
+        Case::Lines(naks::rows_named),
+    ),
+    (
+        "the 128th NAK sets EXCNAK, and no more are counted",
+        Case::Lines(naks::counted),
+    ),
+    (
+        "Clear Flags with bit 3 begins the count anew",
+        Case::Lines(naks::flags_cleared),
+    ),
+    (
+        "the count ends with the transmit, however that ends",
+        Case::Lines(naks::ended),
+    ),
+    (
+        "with chaining it is the count of the oldest",
+        Case::Lines(naks::of_the_oldest),
+    ),
+    (
+        "the bytes of a count that are well formed",
+        Case::Lines(naks::bytes),
     ),
     (
         "the values that each register takes",
@@ -311,7 +338,7 @@ fn two_packets_queued() -> Script {
         ("data 1 1", "REFUSED 4 VALUE"),
         ("step 0", "HELD NOTHING"),
         ("step 0", "PASSED 0"),
-        ("step 0", "HELD DELIVERED"),
+        ("step 0", "HELD DELIVERED 1"),
         ("data 1 1", "DONE BB"),
         ("read 0 0", "DONE 119"), // 77 hex: TA too
         ("write 0 1 0", "DONE"),
@@ -391,6 +418,7 @@ fn packet_over_a_fetched_byte() -> Script {
 }
 
 /// Every byte of a row behind those of C-11, its first bit or its last set, without chaining and with it.
+/// TA is 1, so that no NAK may be counted.
 fn byte_32_alone() -> Script {
     let mut lines = loaded(&[5, 6], "DONE");
     let row = Network::length_for(1);

@@ -6,7 +6,7 @@ use std::collections::VecDeque;
 use crate::model::Network;
 use crate::peer::Peer;
 use crate::prompt::{Lent, Prompt};
-use crate::sights::{fetched, orders, View, Watch};
+use crate::sights::{fetched, naks, named, orders, View, Watch};
 use crate::tally::Tally;
 
 /// Calls sent at a time. While the peer works on them the next ones are made.
@@ -47,6 +47,7 @@ pub struct Comparison<'a> {
     heard: Option<Vec<Heard>>,
     watch: Watch,
     fetched: fetched::Watch,
+    naks: naks::Watch,
     tally: Tally,
 }
 
@@ -73,6 +74,7 @@ impl<'a> Comparison<'a> {
             heard: None,
             watch: Watch::default(),
             fetched: fetched::Watch::default(),
+            naks: naks::Watch::default(),
             tally: Tally::default(),
         }
     }
@@ -126,6 +128,8 @@ impl<'a> Comparison<'a> {
         let (before, after) = (before.as_ref(), after.as_ref());
         let mut sights = self.watch.sights(&words, before, after);
         sights.extend(self.fetched.sights(&words, &answer, before, after));
+        sights.extend(self.naks.sights(&words, &answer, before, after));
+        sights.extend(named::sights(&answer, before));
         sights.extend(orders::sights(&words, self.own.lent().length()));
         self.tally.record(&words, &answer, &sights);
         (answer, sights)
@@ -145,8 +149,8 @@ impl<'a> Comparison<'a> {
     }
 
     /// Notes a call that was answered alike with rows in another order.
-    pub fn shuffled(&mut self, heard: &Heard) {
-        self.tally.record_shuffled(heard);
+    pub fn shuffled(&mut self, first: &Heard, heard: &Heard) {
+        self.tally.record_shuffled(first, heard);
     }
 
     /// Compares all that still waits, and sees that nothing more comes.

@@ -1,4 +1,4 @@
-//! Document 01, "One line step", with request C-11, and the lap call.
+//! Document 01, "One line step", with requests C-11 and C-16, and the lap call.
 
 use crate::model::{Network, Phase, Row};
 use crate::packet::Packet;
@@ -24,15 +24,16 @@ impl Fault {
     }
 }
 
+/// Where ACK or NAK answered the enquiry, with the row that did.
 #[derive(Clone, Copy, Debug, PartialEq, Eq)]
 pub enum Outcome {
     Nothing,
     Malformed,
     Broadcast,
     NoAnswer,
-    Nak,
-    Delivered,
-    Unacknowledged,
+    Nak(usize),
+    Delivered(usize),
+    Unacknowledged(usize),
 }
 
 #[derive(Clone, Copy, Debug, PartialEq, Eq)]
@@ -219,16 +220,17 @@ impl Network {
         // ACK or NAK answers the enquiry, and the holder hears it.
         self.rows[holder].diagnostic.rcvact = true;
         if self.rows[target].ri() {
-            return Outcome::Nak;
+            self.rows[holder].transmit.nak();
+            return Outcome::Nak(target);
         }
         let packet = self.rows[holder].send(page, layout);
         let stored = fault != Fault::PacketDamaged && self.rows[target].store(&packet);
         let heard = stored && fault != Fault::AckLost;
         self.rows[holder].transmit_ends(heard);
         if heard {
-            Outcome::Delivered
+            Outcome::Delivered(target)
         } else {
-            Outcome::Unacknowledged
+            Outcome::Unacknowledged(target)
         }
     }
 

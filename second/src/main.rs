@@ -1,5 +1,5 @@
-//! The second program: document 01 with requests C-11, C-12, C-13 and C-20, held against the program
-//! `bench`.
+//! The second program: document 01 with requests C-11, C-12, C-13, C-16 and C-20, held against the
+//! program `bench`.
 
 mod benchmark;
 mod cases;

@@ -2,7 +2,7 @@
 
 use crate::model::{Configuration, Diagnostic, Mask, Mode, Row, MOST_ROWS, RAM, REGISTERS};
 use crate::order::{ALL_FLAGS, ORDER_MARK, RECORD};
-use crate::queue::{Enabled, Queue, Side, MOST_UNCLEARED};
+use crate::queue::{Enabled, Queue, Side, MOST_NAKS, MOST_UNCLEARED};
 use crate::rng::Rng;
 use crate::tally::COMMANDS;
 
@@ -136,7 +136,8 @@ pub fn registers(rng: &mut Rng, node_id: u8) -> [u8; REGISTERS] {
     let most_waiting = if configuration.cchen { 2 } else { 1 };
     let mut side = |receive: bool| {
         let mut enabled = || enabled(rng, receive, long_packets);
-        let (oldest, second) = (enabled(), enabled());
+        let (mut oldest, second) = (enabled(), enabled());
+        oldest.naks = if receive { 0 } else { naks(rng) };
         let waiting = rng.below(most_waiting + 1);
         let completions = rng.below(usize::from(MOST_UNCLEARED) + 1) as u8;
         Side {
@@ -188,6 +189,17 @@ fn enabled(rng: &mut Rng, receive: bool, long_packets: bool) -> Enabled {
         },
         broadcasts: receive && rng.flag(),
         cancel_asked: rng.one_in(6),
+        naks: 0,
+    }
+}
+
+/// NAKs that a transmit may have had.
+pub fn naks(rng: &mut Rng) -> u8 {
+    match rng.weighted(&[1, 3, 2, 4]) {
+        0 => 0,
+        1 => rng.between(1, usize::from(MOST_NAKS) - 2) as u8,
+        2 => MOST_NAKS - 1,
+        _ => MOST_NAKS,
     }
 }
 

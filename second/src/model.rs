@@ -1,10 +1,11 @@
 //! Document 01, "The saved network": the header and the rows as structs, and the bytes they are
-//! saved as, with those that request C-11 adds for rows with chaining and the one that C-13 adds.
+//! saved as, with those that request C-11 adds for rows with chaining, the one that C-13 adds and the
+//! two of C-16.
 //!
 //! Reading takes each named bit into its field. Bytes that the fields do not give back as they were
 //! are not well formed, nor are those whose fields do not fit each other.
 
-use crate::queue::{Enabled, Queue, Side, MOST_UNCLEARED};
+use crate::queue::{Enabled, Queue, Side, MOST_NAKS, MOST_UNCLEARED};
 
 pub const HEADER: usize = 16;
 pub const REGISTERS: usize = 64;
@@ -19,6 +20,9 @@ pub const CHAINING: std::ops::Range<usize> = 16..32;
 /// The byte of a row that may hold anything: what register 4 gives.
 pub const FETCHED: usize = 32;
 
+/// The bytes of a row that count NAKs, the low one first.
+pub const NAKS: std::ops::Range<usize> = 33..35;
+
 const NETWORK_MARK: [u8; 2] = [0x41, 0x4E];
 const ROW_MARK: [u8; 2] = [0x4E, 0x44];
 const VERSION: u8 = 1;
@@ -31,7 +35,7 @@ fn set(number: u8, on: bool) -> u8 {
     u8::from(on) << number
 }
 
-/// Register 1 as it is read.
+/// Register 1 but for EXCNAK, which the count of NAKs gives.
 #[derive(Clone, Copy, Debug, Default, PartialEq, Eq)]
 pub struct Diagnostic {
     pub myrecon: bool,
@@ -52,7 +56,7 @@ impl Diagnostic {
         }
     }
 
-    pub fn byte(self) -> u8 {
+    fn byte(self) -> u8 {
         set(7, self.myrecon)
             | set(6, self.dupid)
             | set(5, self.rcvact)
@@ -61,7 +65,7 @@ impl Diagnostic {
     }
 }
 
-/// The interrupt mask. EXCNAK has its bit here, though nothing raises it yet.
+/// The interrupt mask.
 #[derive(Clone, Copy, Debug, Default, PartialEq, Eq)]
 pub struct Mask {
     pub ri: bool,
@@ -175,6 +179,7 @@ impl Enabled {
             page: byte & 3,
             broadcasts: false,
             cancel_asked: bit(byte, 7),
+            naks: 0,
         }
     }
 
@@ -297,6 +302,16 @@ impl Row {
         set(4, self.por) | set(2, self.recon) | set(1, self.tma)
     }
 
+    /// So many NAKs came to the oldest transmit that no more are counted.
+    pub fn excnak(&self) -> bool {
+        self.transmit.naks() == MOST_NAKS
+    }
+
+    /// Byte 4, and register 1 as it is read.
+    pub fn diagnostic_status(&self) -> u8 {
+        self.diagnostic.byte() | set(3, self.excnak())
+    }
+
     /// The 64 register bytes of the row.
     pub fn registers(&self) -> [u8; REGISTERS] {
         let [pointer_high, pointer_low] = self.pointer.to_be_bytes();
@@ -305,7 +320,7 @@ impl Row {
             ROW_MARK[1],
             self.node_id,
             self.status(),
-            self.diagnostic.byte(),
+            self.diagnostic_status(),
             self.mask.byte(),
             self.configuration.byte(),
             self.setup,
@@ -325,6 +340,7 @@ impl Row {
         let mut registers = [0; REGISTERS];
         registers[..named.len()].copy_from_slice(&named);
         registers[FETCHED] = self.fetched;
+        registers[NAKS].copy_from_slice(&u16::from(self.transmit.naks()).to_le_bytes());
         registers
     }
 
@@ -338,7 +354,8 @@ impl Row {
     }
 
     /// The register bytes by their numbers in document 01 and in the requests. Where TA or RI is 1, a
-    /// second that waits moves up, and the bytes do not come back as they were.
+    /// second that waits moves up, and the bytes do not come back as they were; nor do NAKs with TA = 1,
+    /// above 128, or with another EXCNAK than theirs.
     fn from_named_bits(registers: &[u8; REGISTERS], ram: [u8; RAM]) -> Row {
         let status = registers[3];
         let [transmits, receives] = Row::queues(registers);
@@ -375,8 +392,13 @@ impl Row {
         let status = registers[3];
         let [transmit, receive] = [registers[13], registers[14]];
         let [second_transmit, second_receive] = [registers[16], registers[17]];
+        let naks = u16::from_le_bytes([registers[NAKS.start], registers[NAKS.start + 1]]);
+        let oldest_transmit = || Enabled {
+            naks: naks.min(u16::from(MOST_NAKS)) as u8,
+            ..Enabled::transmit_from_named_bits(transmit)
+        };
         let transmits = Queue::of(
-            (!bit(status, 0)).then(|| Enabled::transmit_from_named_bits(transmit)),
+            (!bit(status, 0)).then(oldest_transmit),
             bit(second_transmit, SECOND_TRANSMIT)
                 .then(|| Enabled::transmit_from_named_bits(second_transmit)),
         );

@@ -324,15 +324,15 @@ fn step_text(step: Step) -> String {
     }
 }
 
-fn outcome_text(outcome: Outcome) -> &'static str {
+fn outcome_text(outcome: Outcome) -> String {
     match outcome {
-        Outcome::Nothing => "NOTHING",
-        Outcome::Malformed => "MALFORMED",
-        Outcome::Broadcast => "BROADCAST",
-        Outcome::NoAnswer => "NOANSWER",
-        Outcome::Nak => "NAK",
-        Outcome::Delivered => "DELIVERED",
-        Outcome::Unacknowledged => "UNACKNOWLEDGED",
+        Outcome::Nothing => "NOTHING".to_string(),
+        Outcome::Malformed => "MALFORMED".to_string(),
+        Outcome::Broadcast => "BROADCAST".to_string(),
+        Outcome::NoAnswer => "NOANSWER".to_string(),
+        Outcome::Nak(row) => format!("NAK {row}"),
+        Outcome::Delivered(row) => format!("DELIVERED {row}"),
+        Outcome::Unacknowledged(row) => format!("UNACKNOWLEDGED {row}"),
     }
 }
 

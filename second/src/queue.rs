@@ -1,9 +1,12 @@
 //! Request C-11, "Two packets queued": the Enables that wait in a card, the oldest first, and the
 //! completions that no Clear has taken yet. A card without chaining has room for one Enable, and
-//! counts no completions.
+//! counts no completions. And request C-16: the NAKs to an Enable, which are gone when it is.
 
 /// Completions that are kept until they are cleared.
 pub const MOST_UNCLEARED: u8 = 2;
+
+/// NAKs to one Enable that are counted; so many set EXCNAK.
+pub const MOST_NAKS: u8 = 128;
 
 /// An Enable that waits.
 #[derive(Clone, Copy, Debug, PartialEq, Eq)]
@@ -12,6 +15,14 @@ pub struct Enabled {
     /// Only of a receive.
     pub broadcasts: bool,
     pub cancel_asked: bool,
+    /// Only of a transmit that was tried, so of the oldest.
+    pub naks: u8,
+}
+
+impl Enabled {
+    fn without_naks(self) -> Enabled {
+        Enabled { naks: 0, ..self }
+    }
 }
 
 /// The Enables that wait in one direction: a second only behind an oldest.
@@ -47,6 +58,12 @@ impl Queue {
 
     pub fn is_empty(&self) -> bool {
         self.oldest.is_none()
+    }
+
+    /// Whether the same Enables wait, however many NAKs came to them.
+    pub fn waits_as(&self, other: &Queue) -> bool {
+        let enables = |queue: &Queue| queue.waiting().map(Enabled::without_naks);
+        enables(self).eq(enables(other))
     }
 
     /// What is left once the cancels that are asked have taken effect.
@@ -98,6 +115,7 @@ impl Side {
             page,
             broadcasts,
             cancel_asked: false,
+            naks: 0,
         });
         self.queue = match self.queue.oldest {
             None => Queue::of(enabled, None),
@@ -112,6 +130,23 @@ impl Side {
 
     pub fn cancels_take_effect(&mut self) {
         self.queue = self.queue.without_cancelled();
+    }
+
+    /// NAKs to the oldest.
+    pub fn naks(&self) -> u8 {
+        self.queue.oldest.map_or(0, |oldest| oldest.naks)
+    }
+
+    /// A NAK more to the oldest.
+    pub fn nak(&mut self) {
+        if let Some(oldest) = &mut self.queue.oldest {
+            oldest.naks = MOST_NAKS.min(oldest.naks + 1);
+        }
+    }
+
+    /// The count begins anew.
+    pub fn forget_naks(&mut self) {
+        self.queue.oldest = self.queue.oldest.map(Enabled::without_naks);
     }
 
     /// The oldest ends, its cancel mark with it, and the second moves up as it is.

@@ -1,5 +1,5 @@
-//! Document 01, "Registers", with requests C-11 and C-13: the calls on one card, and what they do to
-//! the line.
+//! Document 01, "Registers", with requests C-11, C-13 and C-16: the calls on one card, and what they do
+//! to the line.
 
 use crate::model::{bit, Configuration, Diagnostic, Mask, Mode, Network, Phase, Row, RAM};
 use crate::queue::Side;
@@ -84,7 +84,7 @@ impl Row {
     fn read(&mut self, register: Register) -> Result<u8, Refusal> {
         match register {
             Register::StatusOrMask => Ok(self.status_read()),
-            Register::DiagnosticOrCommand => Ok(std::mem::take(&mut self.diagnostic).byte()),
+            Register::DiagnosticOrCommand => Ok(self.read_diagnostic()),
             Register::PointerHigh => {
                 let [pointer_high, _] = self.pointer.to_be_bytes();
                 Ok(Mode {
@@ -104,6 +104,13 @@ impl Row {
             Register::NodeId => Ok(self.node_id),
             Register::Setup => Ok(self.setup),
         }
+    }
+
+    /// All bits are zeroed but EXCNAK, which stays as long as the NAKs are counted.
+    fn read_diagnostic(&mut self) -> u8 {
+        let status = self.diagnostic_status();
+        self.diagnostic = Diagnostic::default();
+        status
     }
 
     /// The byte that was fetched; with AUTO-INC the next one is fetched then.
@@ -209,6 +216,9 @@ impl Row {
             Command::ClearFlags { por, recon } => {
                 self.por &= !por;
                 self.recon &= !recon;
+                if por {
+                    self.transmit.forget_naks();
+                }
             }
             Command::ClearTransmitInterrupt if !self.transmit.completed() => {}
             Command::ClearTransmitInterrupt => {
@@ -241,6 +251,7 @@ impl Row {
         };
         self.por
             || self.mask.ri && receive
+            || self.mask.excnak && self.excnak()
             || self.mask.recon && self.recon
             || self.mask.ta && transmit
     }

@@ -2,13 +2,14 @@
 //! which scene comes, and what it does, the seed decides.
 
 mod fetched;
+mod naks;
 mod queues;
 mod shuffled;
 
 use crate::comparison::Comparison;
 use crate::material::{self, WIDE};
 use crate::model::{
-    Network, Phase, Row, CHAINING, FETCHED, HEADER, MOST_ROWS, PAGE, RAM, REGISTERS, ROW,
+    Network, Phase, Row, CHAINING, HEADER, MOST_ROWS, NAKS, PAGE, RAM, REGISTERS, ROW,
 };
 use crate::order::RECORD;
 use crate::prompt::{hex_text, CAPACITY, MOST_ROOM};
@@ -46,7 +47,9 @@ impl<'a> Player<'a> {
     }
 
     fn scene(&mut self) -> Played {
-        let weights = [3, 4, 5, 3, 3, 14, 9, 4, 7, 8, 6, 4, 10, 5, 3, 31, 10, 3];
+        let weights = [
+            3, 6, 7, 4, 4, 13, 13, 5, 9, 11, 8, 4, 15, 8, 3, 31, 12, 3, 18,
+        ];
         match self.rng.weighted(&weights) {
             0 => self.new_network(),
             1 => self.fresh_of_any_size(),
@@ -65,7 +68,8 @@ impl<'a> Player<'a> {
             14 => self.looks_at_bytes(),
             15 => self.queues(),
             16 => self.reads_ahead(),
-            _ => self.in_another_order(),
+            17 => self.in_another_order(),
+            _ => self.naks(),
         }
     }
 
@@ -327,7 +331,7 @@ impl<'a> Player<'a> {
                 id = material::nearby_id(&mut self.rng);
             }
             let registers = material::registers(&mut self.rng, id);
-            self.poke(Network::length_for(row), &registers[..=FETCHED])?;
+            self.poke(Network::length_for(row), &registers[..NAKS.end])?;
         }
         if let Some(holder) = self.some_row_on_line() {
             let phase = self.rng.below(3) as u8;
@@ -719,7 +723,7 @@ impl<'a> Player<'a> {
             if !reset {
                 self.enable_receive(twin)?;
             }
-            match self.rng.weighted(&[2, 3, 2]) {
+            match self.rng.weighted(&[2, 4, 2]) {
                 0 => self.configure(twin, 0x39)?,
                 // CCHEN is to change with the write that would put it on line.
                 1 => self.change_chaining(twin, 0x39)?,
@@ -874,7 +878,7 @@ impl<'a> Player<'a> {
     }
 
     fn lines_not_understood(&mut self) -> Played {
-        for _ in 0..self.rng.between(2, 8) {
+        for _ in 0..self.rng.between(3, 9) {
             let line = material::not_understood(&mut self.rng);
             self.both.call(&line)?;
         }

@@ -88,6 +88,9 @@ impl Shuffle {
             (Some("step"), [word @ ("RECOVERED" | "PASSED"), row]) => {
                 format!("{word} {}", self.renamed(row))
             }
+            (Some("step"), ["HELD", outcome @ ("NAK" | "DELIVERED" | "UNACKNOWLEDGED"), row]) => {
+                format!("HELD {outcome} {}", self.renamed(row))
+            }
             (Some("lap"), ["DONE", total, takers @ ..]) => {
                 let mut text = format!("DONE {total}");
                 // An entry is an ID, a row and a count.

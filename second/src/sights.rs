@@ -2,10 +2,12 @@
 //! byte was changed before. The tally counts each of these sights with the answer that came.
 
 pub mod fetched;
+pub mod naks;
+pub mod named;
 pub mod orders;
 
-use crate::model::{Configuration, Mask, Network, Phase, Row, HEADER, REGISTERS, ROW};
-use crate::queue::{Enabled, Queue, Side};
+use crate::model::{Configuration, Diagnostic, Mask, Network, Phase, Row, HEADER, REGISTERS, ROW};
+use crate::queue::{Enabled, Queue, Side, MOST_NAKS};
 use crate::registers::Command;
 
 const TRANSMIT: &str = "transmit";
@@ -50,7 +52,7 @@ pub fn can_come() -> Vec<(String, &'static [&'static str])> {
         (byte_changed("20-30"), SHAPE),
         (byte_changed("31"), SHAPE),
         (byte_changed("32"), DONE),
-        (byte_changed("33"), SHAPE),
+        (byte_changed("33"), DONE_OR_SHAPE),
         (byte_changed("34"), SHAPE),
         (byte_changed("35-63"), SHAPE),
         (byte_changed("16-19 without CCHEN"), SHAPE),
@@ -110,6 +112,8 @@ pub fn can_come() -> Vec<(String, &'static [&'static str])> {
     all.push((completion_of_one_asked(), STORED));
     all.extend(orders::can_come());
     all.extend(fetched::can_come());
+    all.extend(naks::can_come());
+    all.extend(named::can_come());
     all
 }
 
@@ -219,7 +223,9 @@ struct Glance {
     chaining: bool,
     por: bool,
     recon: bool,
+    diagnostic: Diagnostic,
     mask: Mask,
+    nid: u8,
     transmit: Side,
     receive: Side,
     tma: bool,
@@ -237,7 +243,9 @@ impl Glance {
             chaining: row.chaining(),
             por: row.por,
             recon: row.recon,
+            diagnostic: row.diagnostic,
             mask: row.mask,
+            nid: row.nid,
             transmit: row.transmit,
             receive: row.receive,
             tma: row.tma,
@@ -256,6 +264,10 @@ impl Glance {
         } else {
             Work::Idle
         }
+    }
+
+    fn excnak(&self) -> bool {
+        self.transmit.naks() == MOST_NAKS
     }
 
     fn both_full(&self) -> bool {
@@ -471,7 +483,7 @@ fn configured(before: &View, row: &Glance, configuration: Configuration) -> Opti
 
 /// Where one side alone can make the interrupt of a row with chaining.
 fn interrupt_asked(row: &Glance) -> Option<String> {
-    if row.por || row.mask.recon && row.recon {
+    if row.por || row.mask.recon && row.recon || row.mask.excnak && row.excnak() {
         return None;
     }
     let decides = |side: Side, completed, idle| {
@@ -516,7 +528,7 @@ fn turn(was: &Glance, is: &Glance) -> Vec<String> {
     let cancels = cancels.map(|(kind, side)| cancelled(kind, side.queue));
     let mut seen: Vec<String> = cancels.into_iter().flatten().collect();
     let tried = was.transmit.queue.without_cancelled();
-    if is.transmit.queue != tried {
+    if !is.transmit.queue.waits_as(&tried) {
         seen.extend(ended(TRANSMIT, was.transmit.uncleared, tried));
     } else if tried.second().is_some() {
         seen.push(transmit_stays());

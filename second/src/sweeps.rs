@@ -1,5 +1,5 @@
-//! Every value of a byte, where the rules of document 01 and of requests C-11 and C-13 say how many of
-//! them are taken.
+//! Every value of a byte, where the rules of document 01 and of requests C-11, C-13 and C-16 say how many
+//! of them are taken.
 //!
 //! The network has one row. Its byte b is at `ROW + b`, and page 0 of its RAM at `RAM`.
 
@@ -111,7 +111,7 @@ pub fn registers(peer: &mut dyn Peer) -> Result<(), String> {
 
 /// The bytes of a row: of a fresh one, of one with TA and RI 0, of the same with long packets 1, and
 /// of the same with an odd page to send or to fill; then of rows with chaining, which wait once or
-/// twice, or have completions that are not cleared.
+/// twice, or have completions that are not cleared; and of rows with NAKs.
 pub fn forms(peer: &mut dyn Peer) -> Result<(), String> {
     const FRESH: &[Fitting] = &[
         (0, 1),
@@ -144,7 +144,16 @@ pub fn forms(peer: &mut dyn Peer) -> Result<(), String> {
         (64, 256),
         (1087, 256),
     ];
-    const ENABLED: &[Fitting] = &[(3, 24), (6, 256), (13, 8), (14, 16), (15, 2)];
+    const ENABLED: &[Fitting] = &[
+        (3, 24),
+        (4, 32),
+        (6, 256),
+        (13, 8),
+        (14, 16),
+        (15, 2),
+        (33, 128),
+        (34, 1),
+    ];
     const ODD: &[Fitting] = &[(3, 0), (15, 1)];
     const IDLE_CHAINING: &[Fitting] = &[
         (3, 24),
@@ -165,6 +174,7 @@ pub fn forms(peer: &mut dyn Peer) -> Result<(), String> {
     ];
     const ENABLED_CHAINING: &[Fitting] = &[
         (3, 24),
+        (4, 32),
         (6, 256),
         (13, 8),
         (14, 16),
@@ -174,9 +184,13 @@ pub fn forms(peer: &mut dyn Peer) -> Result<(), String> {
         (18, 4),
         (19, 3),
         (20, 1),
+        (33, 128),
+        (34, 1),
     ];
     const SECOND_ODD: &[Fitting] = &[(15, 1)];
-    let cards: [(&[Change], &[Fitting]); 17] = [
+    const NAKS: &[Fitting] = &[(3, 8), (4, 32), (6, 256), (33, 128), (34, 1)];
+    const EXCNAK: &[Fitting] = &[(3, 8), (4, 32), (6, 256), (33, 1), (34, 1)];
+    let cards: [(&[Change], &[Fitting]); 21] = [
         (&[], FRESH),
         (&[(3, 0x10)], ENABLED),
         (&[(3, 0x10)], &[(16, 1), (17, 1), (18, 1), (19, 1)]),
@@ -206,6 +220,11 @@ pub fn forms(peer: &mut dyn Peer) -> Result<(), String> {
         ),
         (&[(6, 0x58), (3, 0x10), (16, 0x41)], SECOND_ODD),
         (&[(6, 0x58), (3, 0x10), (17, 0x61)], SECOND_ODD),
+        // NAKs only with TA = 0, and EXCNAK with 128.
+        (&[(3, 0x10), (33, 0x7F)], NAKS),
+        (&[(6, 0x58), (3, 0x10), (33, 0x01)], NAKS),
+        (&[(3, 0x10), (33, 0x80), (4, 0x08)], EXCNAK),
+        (&[(6, 0x58), (3, 0x10), (33, 0x80), (4, 0x08)], EXCNAK),
     ];
     for (changes, bytes) in cards {
         for (byte, expected) in bytes {

@@ -3,7 +3,7 @@
 use std::collections::BTreeMap;
 
 use crate::comparison::Heard;
-use crate::sights::{self, fetched};
+use crate::sights::{self, fetched, naks, named};
 
 /// The words of the prompt that are compared, each with the answers it can give.
 const ANSWERS: [(&str, &[&str]); 15] = [
@@ -206,7 +206,7 @@ const WRITE_ANSWERS: [(&str, &[&str]); 9] = [
 ];
 
 /// The same, of a call that was made a second time with rows in another order.
-const SHUFFLED_ANSWERS: [(&str, &[&str]); 15] = [
+const SHUFFLED_ANSWERS: [(&str, &[&str]); 24] = [
     ("read", &["DONE", "REFUSED 2 ROW"]),
     ("read 4, old byte, AUTO-INC 0", &["DONE"]),
     ("read 4, old byte, AUTO-INC 1", &["DONE"]),
@@ -238,9 +238,30 @@ const SHUFFLED_ANSWERS: [(&str, &[&str]); 15] = [
             "REFUSED 4 VALUE",
         ],
     ),
+    (
+        ROW_RENAMED,
+        &[
+            "RECOVERED",
+            "PASSED",
+            "HELD NAK",
+            "HELD DELIVERED",
+            "HELD UNACKNOWLEDGED",
+        ],
+    ),
+    ("step, answered before the holder", &ANSWERED),
+    ("step, answered behind the holder", &ANSWERED),
+    ("step, answered by a row that is not next", &ANSWERED),
+    ("step, NAK 1", &["HELD NAK"]),
+    ("step, NAK 2 to 127", &["HELD NAK"]),
+    ("step, NAK 128", &["HELD NAK"]),
+    ("read 1, EXCNAK, other bits too", &["DONE"]),
+    ("interrupt, mask bit 3, EXCNAK", &["DONE 1"]),
     ("data", &["DONE", "REFUSED 4 VALUE"]),
     ("lap", &["DONE", "REFUSED 7 BUSY", "REFUSED 13 ROOM"]),
 ];
+
+/// Outcomes with the row that answered an enquiry.
+const ANSWERED: [&str; 3] = ["HELD NAK", "HELD DELIVERED", "HELD UNACKNOWLEDGED"];
 
 /// The legal command bytes: twenty, and the two Clears.
 pub const COMMANDS: [u8; 22] = [
@@ -252,6 +273,9 @@ pub const COMMANDS: [u8; 22] = [
 pub const CLEARS: [u8; 2] = [0x00, 0x08];
 
 const SHUFFLED: &str = "in another order, ";
+
+/// A step that tells a row which has another number in the other order.
+const ROW_RENAMED: &str = "step, row renamed";
 
 /// Counts by what was asked and what was answered.
 #[derive(Default)]
@@ -291,13 +315,22 @@ impl Tally {
         }
     }
 
-    /// A call that was answered alike with rows in another order. Of what it met, only an old byte is
-    /// counted: it is in no word of the call.
-    pub fn record_shuffled(&mut self, heard: &Heard) {
+    /// A call that was answered alike with rows in another order. Of what it met, only what no word of
+    /// the call says is counted: an old byte, NAKs, which row answered; and that a row told in the
+    /// answer has another number.
+    pub fn record_shuffled(&mut self, first: &Heard, heard: &Heard) {
+        const COUNTED: [&str; 5] = [
+            fetched::OLD_READ,
+            naks::NAK_STEP,
+            naks::READ_1,
+            naks::INTERRUPT,
+            named::ANSWERED,
+        ];
         let word = heard.line.split(' ').next().unwrap_or_default();
         let sights = heard.sights.iter().map(String::as_str);
-        let old_bytes = sights.filter(|sight| sight.starts_with(fetched::OLD_READ));
-        for asked in old_bytes.chain([word]) {
+        let sights = sights.filter(|sight| COUNTED.iter().any(|kind| sight.starts_with(kind)));
+        let renamed = word == "step" && first.answer != heard.answer;
+        for asked in sights.chain([word]).chain(renamed.then_some(ROW_RENAMED)) {
             let asked = format!("{SHUFFLED}{asked}");
             count(&mut self.shuffled, asked, kind(word, &heard.answer));
         }
@@ -341,7 +374,7 @@ fn print_table(counts: &BTreeMap<(String, String), u64>) {
     let mut lines: Vec<_> = counts.iter().collect();
     lines.sort_by_key(|((asked, answer), _)| (asked, refusal_number(answer), answer));
     for ((asked, answer), count) in lines {
-        println!("{asked:<50}{answer:<24}{count:>10}");
+        println!("{asked:<62}{answer:<24}{count:>10}");
     }
 }
 
@@ -357,12 +390,13 @@ fn count(counts: &mut BTreeMap<(String, String), u64>, asked: String, answer: St
     *counts.entry((asked, answer)).or_default() += 1;
 }
 
-/// The answer without what belongs to the single call, as the record that is refused does.
+/// The answer without what belongs to the single call, as the record that is refused does, or the row
+/// that is named.
 fn kind(word: &str, answer: &str) -> String {
     let words: Vec<&str> = answer.split(' ').collect();
     match words.as_slice() {
         ["REFUSED", number, name, ..] => format!("REFUSED {number} {name}"),
-        ["HELD", ..] => answer.to_string(),
+        ["HELD", outcome, ..] => format!("HELD {outcome}"),
         ["DONE", ..] if word == "interrupt" => answer.to_string(),
         [first, ..] => first.to_string(),
         [] => String::new(),

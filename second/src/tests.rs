@@ -1,8 +1,10 @@
 //! Values worked out by hand from document 01, from request C-11 in `tests/chaining.rs`, from C-12 in
-//! `tests/orders.rs`, from C-13 in `tests/fetched.rs` and from C-24 in `tests/shuffled.rs`.
+//! `tests/orders.rs`, from C-13 in `tests/fetched.rs`, from C-16 in `tests/naks.rs` and from C-24 in
+//! `tests/shuffled.rs`.
 
 mod chaining;
 mod fetched;
+mod naks;
 mod orders;
 mod shuffled;
 
@@ -459,11 +461,11 @@ fn cancels() {
 fn outcomes() {
     // Of each: DID, COUNT, the target's receiver off, fault, answer, sender's status, byte 0.
     let cases = [
-        (40, 0xFF, false, 0, "HELD DELIVERED", 0x17, 7),
-        (40, 0xFF, false, 3, "HELD DELIVERED", 0x17, 7),
-        (40, 0xFF, false, 1, "HELD UNACKNOWLEDGED", 0x15, 7),
-        (40, 0xFF, false, 2, "HELD UNACKNOWLEDGED", 0x15, 7),
-        (40, 0xFF, true, 0, "HELD NAK", 0x14, 0x55),
+        (40, 0xFF, false, 0, "HELD DELIVERED 0", 0x17, 7),
+        (40, 0xFF, false, 3, "HELD DELIVERED 0", 0x17, 7),
+        (40, 0xFF, false, 1, "HELD UNACKNOWLEDGED 0", 0x15, 7),
+        (40, 0xFF, false, 2, "HELD UNACKNOWLEDGED 0", 0x15, 7),
+        (40, 0xFF, true, 0, "HELD NAK 0", 0x14, 0x55),
         (9, 0xFF, false, 0, "HELD NOANSWER", 0x15, 0x55),
         (7, 0xFF, false, 0, "HELD NOANSWER", 0x15, 0x55),
         (0, 0xFF, false, 0, "HELD BROADCAST", 0x15, 7),
@@ -481,8 +483,8 @@ fn outcomes() {
         desk.header(1, 1);
         desk.reads(1, 0, status);
         desk.ram(1, 0x100, &[sid, did, count]);
-        let stored =
-            (answer.ends_with("DELIVERED") || fault == 2 || did == 0 && count > 2) && fault != 1;
+        let delivered = answer.starts_with("HELD DELIVERED");
+        let stored = (delivered || fault == 2 || did == 0 && count > 2) && fault != 1;
         desk.ram(0, 0, if stored { &[7] } else { &[0] });
         desk.ram(0, 0xFF, if stored { &[0xAA] } else { &[0] });
         desk.registers(0, 14, if stored || off { &[0] } else { &[0x40] });
@@ -499,7 +501,7 @@ fn who_hears_a_packet() {
     for row in 0..3 {
         desk.answer(&format!("read {row} 1"));
     }
-    desk.gives("step 2", "HELD UNACKNOWLEDGED");
+    desk.gives("step 2", "HELD UNACKNOWLEDGED 0");
     for row in 0..3 {
         desk.reads(row, 1, 0x20);
     }
@@ -515,7 +517,7 @@ fn long_packet_to_a_short_row() {
     desk.set(Network::length_for(1) + 64 + 1023, &[0xAA]);
     desk.write(1, 1, 0x0B, 0);
     desk.pass_to(1);
-    desk.gives("step 0", "HELD UNACKNOWLEDGED");
+    desk.gives("step 0", "HELD UNACKNOWLEDGED 0");
     desk.reads(0, 0, 0x15);
     desk.registers(0, 14, &[0x40]);
     desk.reads(1, 0, 0x15);
@@ -524,7 +526,7 @@ fn long_packet_to_a_short_row() {
     desk.set(Network::length_for(1) + 64 + 513, &[200]);
     desk.write(1, 1, 0x0B, 0);
     desk.pass_to(1);
-    desk.gives("step 0", "HELD DELIVERED");
+    desk.gives("step 0", "HELD DELIVERED 2");
     desk.ram(2, 0, &[7, 200, 0, 0xFF, 0]);
     desk.ram(2, 511, &[0xAA]);
     let data = desk.answer("data 2 0");

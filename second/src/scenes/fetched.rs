@@ -109,7 +109,7 @@ impl Player<'_> {
     }
 
     /// A hardware reset, and the row on line again with its ID.
-    fn hardware_reset_and_back(&mut self, row: usize) -> Played {
+    pub(super) fn hardware_reset_and_back(&mut self, row: usize) -> Played {
         let id = self.row(row).map_or(0, |row| row.node_id);
         self.call(&format!("reset {row}"))?;
         self.write(row, 6, 0x19)?;

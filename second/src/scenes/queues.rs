@@ -21,7 +21,7 @@ impl Player<'_> {
                     self.write(row, 6, 0xB8)?;
                 }
                 self.write(row, 6, 0x78)?;
-                if self.rng.one_in(3) {
+                if self.rng.flag() {
                     self.write(row, 1, 0x0D)?;
                 }
             }
@@ -33,7 +33,7 @@ impl Player<'_> {
             }
             let any = self.some_row();
             let row = self.some_row_chaining().unwrap_or(any);
-            match self.rng.weighted(&[6, 3, 4, 4, 2, 3, 4, 6, 2, 2, 1, 3, 3]) {
+            match self.rng.weighted(&[5, 3, 4, 4, 2, 3, 4, 6, 2, 2, 1, 4, 5]) {
                 0 => self.packet_tried(row)?,
                 1 => self.packet_tried(any)?,
                 2 => self.waiting_packet(row)?,

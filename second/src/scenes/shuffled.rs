@@ -53,7 +53,7 @@ impl Player<'_> {
                 return Err(difference(&shuffle, &first[..=at], other));
             }
             if shuffle.moves() {
-                self.both.shuffled(other);
+                self.both.shuffled(one, other);
             }
         }
         Ok(())
@@ -72,7 +72,7 @@ impl Player<'_> {
     /// row.
     fn call_of_any_row(&mut self) -> Played {
         let any = self.some_row();
-        let weights = [8, 8, 2, 2, 2, 4, 4, 2, 2, 2, 2, 2, 2, 2];
+        let weights = [12, 8, 2, 2, 2, 4, 4, 2, 2, 2, 2, 2, 2, 2, 4];
         match self.rng.weighted(&weights) {
             0 => self.any_call(),
             1 => {
@@ -93,7 +93,8 @@ impl Player<'_> {
             10 => self.twin_and_tentative_id(),
             11 => self.packet_over_fetched_bytes(),
             12 => self.old_byte(any),
-            _ => self.lap_anew(),
+            13 => self.lap_anew(),
+            _ => self.packet_with_naks(),
         }
     }
 }

@@ -47,7 +47,7 @@ fn c11_01_status_as_it_is_read() {
     desk.packets(&[40]);
     desk.commands(1, &[0x03]);
     desk.shows(1, 0x40);
-    desk.turn(1, "DELIVERED");
+    desk.turn(1, "DELIVERED 0");
     desk.shows(1, 0x63);
     // Byte 3 keeps its layout: RI, TMA, TA.
     desk.registers(1, 3, &[0x83]);
@@ -69,7 +69,7 @@ fn c11_03_busy_with_two_waiting() {
     desk.packets(&[40, 40]);
     desk.commands(1, &[0x03, 0x23]);
     desk.write(1, 1, 0x0B, 7);
-    desk.turn(1, "DELIVERED");
+    desk.turn(1, "DELIVERED 0");
     desk.registers(1, 18, &[1]);
     desk.commands(1, &[0x0B]);
     desk.write(1, 1, 0x2B, 7);
@@ -89,12 +89,12 @@ fn c11_04_a_third_completion() {
     let mut desk = desk();
     desk.packets(&[40, 9, 40]);
     desk.commands(1, &[0x03, 0x23]);
-    desk.turn(1, "DELIVERED");
+    desk.turn(1, "DELIVERED 0");
     desk.commands(1, &[0x0B]);
     desk.turn(1, "NOANSWER");
     desk.registers(1, 18, &[0x02]);
     desk.commands(0, &[0x04]);
-    desk.turn(1, "DELIVERED");
+    desk.turn(1, "DELIVERED 0");
     desk.registers(1, 18, &[0x82]);
     desk.shows(1, 0x63);
     desk.commands(1, &[0x00]);
@@ -109,7 +109,7 @@ fn c11_04_a_third_completion() {
     desk.commands(1, &[0x03, 0x23]);
     desk.turn(1, "NOANSWER");
     desk.commands(1, &[0x0B]);
-    desk.turn(1, "DELIVERED");
+    desk.turn(1, "DELIVERED 0");
     desk.registers(1, 18, &[0x82]);
     desk.turn(1, "NOANSWER");
     desk.registers(1, 18, &[0x02]);
@@ -119,7 +119,7 @@ fn c11_04_a_third_completion() {
     desk.put(2, 0, 7, 0xFF);
     for count in [1, 2, 2] {
         desk.commands(2, &[0x03]);
-        desk.turn(2, "DELIVERED");
+        desk.turn(2, "DELIVERED 1");
         desk.registers(1, 19, &[count]);
         if count == 1 {
             desk.commands(1, &[0x0C]);
@@ -133,14 +133,14 @@ fn c11_05_ta_and_ri_with_a_second_waiting() {
     let mut desk = desk();
     desk.packets(&[40, 40]);
     desk.commands(1, &[0x03, 0x23, 0x04, 0x24]);
-    desk.turn(1, "DELIVERED");
+    desk.turn(1, "DELIVERED 0");
     desk.shows(1, 0x03);
     desk.put(2, 0, 7, 0xFF);
     desk.commands(2, &[0x03]);
-    desk.turn(2, "DELIVERED");
+    desk.turn(2, "DELIVERED 1");
     desk.shows(1, 0x83);
     desk.commands(2, &[0x03]);
-    desk.turn(2, "DELIVERED");
+    desk.turn(2, "DELIVERED 1");
     desk.shows(1, 0xC3);
 }
 
@@ -151,10 +151,10 @@ fn c11_06_what_completes() {
         (40, 0x02, 0, "MALFORMED", 1),
         (0, 0xFF, 0, "BROADCAST", 1),
         (9, 0xFF, 0, "NOANSWER", 1),
-        (40, 0xFF, 0, "DELIVERED", 1),
-        (40, 0xFF, 1, "UNACKNOWLEDGED", 1),
-        (40, 0xFF, 2, "UNACKNOWLEDGED", 1),
-        (200, 0xFF, 0, "NAK", 0),
+        (40, 0xFF, 0, "DELIVERED 0", 1),
+        (40, 0xFF, 1, "UNACKNOWLEDGED 0", 1),
+        (40, 0xFF, 2, "UNACKNOWLEDGED 0", 1),
+        (200, 0xFF, 0, "NAK 2", 0),
     ];
     for (did, count, fault, outcome, uncleared) in cases {
         let mut desk = desk();
@@ -179,7 +179,7 @@ fn c11_07_tma_of_the_oldest_uncleared() {
     let mut desk = desk();
     desk.packets(&[40]);
     desk.commands(1, &[0x03]);
-    desk.turn(1, "DELIVERED");
+    desk.turn(1, "DELIVERED 0");
     desk.commands(1, &[0x03]);
     desk.shows(1, 0x43);
     desk.gives("check", "DONE");
@@ -194,7 +194,7 @@ fn c11_07_tma_of_the_oldest_uncleared() {
     desk.put(2, 0, 40, 0xFF);
     desk.commands(0, &[0x04]);
     desk.commands(2, &[0x03]);
-    desk.turn(2, "DELIVERED");
+    desk.turn(2, "DELIVERED 0");
     desk.write(2, 6, 0x78, 0);
     desk.shows(2, 0x62);
     desk.commands(2, &[0x00]);
@@ -232,7 +232,7 @@ fn c11_09_disables() {
     desk.packets(&[9, 40]);
     desk.commands(1, &[0x03, 0x23, 0x01]);
     desk.registers(1, 13, &[0x80, 0, 0, 0x41]);
-    desk.turn(1, "DELIVERED");
+    desk.turn(1, "DELIVERED 0");
     desk.registers(1, 13, &[0, 0, 0, 0, 0, 1]);
     desk.commands(1, &[0x00, 0x03, 0x23, 0x01, 0x01]);
     desk.registers(1, 13, &[0x80, 0, 0, 0xC1]);
@@ -258,7 +258,7 @@ fn c11_09_disables() {
     desk.commands(1, &[0x03, 0x23]);
     desk.set(Network::length_for(1) + 16, &[0xC1]);
     desk.gives("check", "DONE");
-    desk.turn(1, "DELIVERED");
+    desk.turn(1, "DELIVERED 0");
     desk.registers(1, 13, &[0, 0, 0, 0, 0, 1]);
     desk.commands(1, &[0x03, 0x23]);
     desk.set(Network::length_for(1) + 16, &[0xC1]);
@@ -274,7 +274,7 @@ fn c11_10_a_packet_into_a_receive_whose_cancel_is_asked() {
     desk.pass_to(2);
     desk.commands(1, &[0x04, 0x24, 0x02]);
     desk.registers(1, 14, &[0x80, 0, 0, 0x21]);
-    desk.gives("step 0", "HELD DELIVERED");
+    desk.gives("step 0", "HELD DELIVERED 1");
     desk.registers(1, 14, &[0x01, 0, 0, 0, 0, 1]);
     desk.shows(1, 0xA0);
     desk.gives("data 1 0", "DONE AA");
@@ -371,7 +371,7 @@ fn c11_12_changes_of_cchen() {
         let mut desk = self::desk();
         desk.packets(&[40]);
         desk.commands(1, &[0x03]);
-        desk.turn(1, "DELIVERED");
+        desk.turn(1, "DELIVERED 0");
         desk.write(1, 6, configuration, 0);
         desk.registers(1, 16, &[0; 16]);
         desk.reads(1, 0, 0x97);
@@ -379,7 +379,7 @@ fn c11_12_changes_of_cchen() {
     let mut desk = self::desk();
     desk.packets(&[40]);
     desk.commands(1, &[0x03]);
-    desk.turn(1, "DELIVERED");
+    desk.turn(1, "DELIVERED 0");
     desk.write(1, 6, 0xB8, 0);
     desk.reads(1, 0, 0x91);
     // A hardware reset ends chaining, whatever waits.
@@ -441,11 +441,11 @@ fn c11_15_one_packet_a_token() {
     desk.packets(&[200, 200]);
     desk.commands(1, &[0x03, 0x23]);
     desk.commands(2, &[0x04, 0x24]);
-    desk.turn(1, "DELIVERED");
+    desk.turn(1, "DELIVERED 2");
     desk.registers(2, 14, &[1, 0, 0, 0, 0, 1]);
     desk.gives("data 2 0", "DONE AA");
     desk.gives("data 2 1", "REFUSED 4 VALUE");
-    desk.turn(1, "DELIVERED");
+    desk.turn(1, "DELIVERED 2");
     desk.gives("data 2 1", "DONE AA");
     desk.registers(2, 14, &[0, 0, 0, 0, 0, 2]);
 }
@@ -455,12 +455,12 @@ fn c11_16_nak_keeps_the_oldest_first() {
     let mut desk = desk();
     desk.packets(&[200, 40]);
     desk.commands(1, &[0x03, 0x23]);
-    desk.turn(1, "NAK");
-    desk.turn(1, "NAK");
+    desk.turn(1, "NAK 2");
+    desk.turn(1, "NAK 2");
     desk.registers(1, 13, &[0, 0, 0, 0x41, 0, 0]);
     desk.commands(2, &[0x04]);
-    desk.turn(1, "DELIVERED");
-    desk.turn(1, "DELIVERED");
+    desk.turn(1, "DELIVERED 2");
+    desk.turn(1, "DELIVERED 0");
 }
 
 #[test]
@@ -468,7 +468,7 @@ fn c11_17_software_reset() {
     let mut desk = desk();
     desk.packets(&[40]);
     desk.commands(1, &[0x03]);
-    desk.turn(1, "DELIVERED");
+    desk.turn(1, "DELIVERED 0");
     desk.write(1, 6, 0xF8, 0);
     desk.write(1, 6, 0x78, 0);
     desk.reads(1, 0, 0x70);
@@ -510,7 +510,7 @@ fn c11_19_moving_up() {
     desk.registers(1, 14, &[0x81, 0, 0, 0xE2]);
     desk.reads(1, 1, 0xF0);
     let before = desk.answer("peek 1104 14");
-    desk.gives("step 0", "HELD DELIVERED");
+    desk.gives("step 0", "HELD DELIVERED 1");
     desk.registers(1, 14, &[0xC2, 0, 0, 0, 0, 1]);
     // Of bytes 0-13 only the diagnostic status moved, by RCVACT.
     desk.reads(1, 1, 0x20);
@@ -535,7 +535,7 @@ fn interrupts_by_tta_and_tri() {
         desk.commands(1, &[0x1E]);
         desk.gives("interrupt 1", "DONE 0");
     }
-    desk.turn(1, "DELIVERED");
+    desk.turn(1, "DELIVERED 0");
     for (mask, active) in [(0x01, 1), (0x80, 0), (0x00, 0), (0x81, 1)] {
         desk.write(1, 0, mask, 0);
         desk.commands(1, &[0x1E]);
@@ -549,7 +549,7 @@ fn interrupts_by_tta_and_tri() {
     desk.gives("interrupt 1", "DONE 0");
     desk.put(2, 0, 7, 0xFF);
     desk.commands(2, &[0x03]);
-    desk.turn(2, "DELIVERED");
+    desk.turn(2, "DELIVERED 1");
     for (mask, active) in [(0x01, 0), (0x80, 1)] {
         desk.write(1, 0, mask, 0);
         desk.commands(1, &[0x1E]);

@@ -100,7 +100,7 @@ fn c13_04_an_incremented_read_fetches_the_next() {
     desk.put(1, 0, 40, 0xFF);
     desk.write(1, 1, 0x03, 0);
     desk.pass_to(1);
-    desk.gives("step 0", "HELD DELIVERED");
+    desk.gives("step 0", "HELD DELIVERED 0");
     desk.ram(0, 0, &[7, 40, 0xFF]);
     desk.reads(0, 4, 0x11);
     desk.reads(0, 4, 40);
@@ -211,7 +211,7 @@ fn the_line_leaves_it() {
 /// Row 1 reads byte 0 of the page that it sends, where its own ID is written then.
 #[test]
 fn own_id_over_it() {
-    for (did, answer) in [(40, "HELD DELIVERED"), (0, "HELD BROADCAST")] {
+    for (did, answer) in [(40, "HELD DELIVERED 0"), (0, "HELD BROADCAST")] {
         let mut desk = Desk::sample();
         desk.put(1, 0, did, 0xFF);
         desk.write(1, 2, 0x80, 0);
@@ -334,7 +334,7 @@ fn sights_of_a_packet() {
         ("write 1 1 3", "DONE", &[]),
         (
             "step 0",
-            "HELD DELIVERED",
+            "HELD DELIVERED 0",
             &[
                 "step, own ID over it",
                 "step, packet at 0 after 3FF",

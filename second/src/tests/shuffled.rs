@@ -44,7 +44,10 @@ fn a_row_that_is_told_is_renamed() {
         ("step 0", "RECOVERED 2", "RECOVERED 1"),
         ("step 0", "PASSED 1", "PASSED 0"),
         ("step 0", "UNANSWERED 1", "UNANSWERED 1"),
-        ("step 0", "HELD DELIVERED", "HELD DELIVERED"),
+        ("step 0", "HELD NAK 0", "HELD NAK 2"),
+        ("step 0", "HELD DELIVERED 1", "HELD DELIVERED 0"),
+        ("step 2", "HELD UNACKNOWLEDGED 2", "HELD UNACKNOWLEDGED 1"),
+        ("step 0", "HELD NOTHING", "HELD NOTHING"),
         ("step 4", "REFUSED 4 VALUE", "REFUSED 4 VALUE"),
         ("read 1 2", "DONE 1", "DONE 1"),
         ("interrupt 1", "DONE 1", "DONE 1"),
@@ -140,9 +143,12 @@ fn played(answer: fn(&str) -> String) -> Result<(), String> {
 #[test]
 fn an_answer_that_depends_on_the_place_of_a_row_is_found() {
     assert_eq!(played(str::to_string), Ok(()));
-    let answers: [fn(&str) -> String; 2] = [
+    let answers: [fn(&str) -> String; 5] = [
         |answer| answer.replace("RECOVERED 0", "RECOVERED 1"),
         |answer| answer.replace("PASSED 1", "PASSED 0"),
+        |answer| answer.replace("HELD NAK 0", "HELD NAK 1"),
+        |answer| answer.replace("HELD DELIVERED 1", "HELD DELIVERED 0"),
+        |answer| answer.replace("HELD UNACKNOWLEDGED 0", "HELD UNACKNOWLEDGED 1"),
     ];
     for answer in answers {
         let found = played(answer).expect_err("it depends on the place");
@@ -153,6 +159,9 @@ fn an_answer_that_depends_on_the_place_of_a_row_is_found() {
 /// Another answer that is the same wherever the rows stand is none of this scene's business.
 #[test]
 fn an_answer_that_is_wrong_in_every_order_alike_is_not() {
-    let deaf = |answer: &str| answer.replace("HELD DELIVERED", "HELD NOANSWER");
+    let deaf = |answer: &str| match answer.strip_prefix("HELD DELIVERED ") {
+        Some(_) => "HELD NOANSWER".to_string(),
+        None => answer.to_string(),
+    };
     assert_eq!(played(deaf), Ok(()));
 }
