@@ -30,7 +30,7 @@ pub enum Outcome {
 
 impl Outcome {
     // The row that answered the enquiry; 0 where none did.
-    pub fn row(self) -> usize
+    pub(crate) fn row(self) -> usize
         ensures { λ r. ⌜ r ≡ outcomeRow self ⌝ }
     {
         match self {

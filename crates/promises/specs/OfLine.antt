@@ -1,11 +1,9 @@
 -- "No second outcome fits", over the contracts of `line`.
 -- Assumes nothing.
 use Rattle.line.proofs.step as step
-use Rattle.line.proofs.traffic as traffic
 use Rattle.promises.specs.Once.{Fixed, Once}
 
 pub record OfLine : Type 0 where
-  pub row : Once traffic.Outcome.row.ended traffic.Outcome.row.Reads.Asked traffic.Outcome.row.Reads.Learnt
   pub number : Once step.Answer.number.ended step.Answer.number.Reads.Asked step.Answer.number.Reads.Learnt
   pub value : Once step.Answer.value.ended step.Answer.value.Reads.Asked step.Answer.value.Reads.Learnt
   pub step-on : Fixed step.step_on.ended step.step_on.Reads.Learnt

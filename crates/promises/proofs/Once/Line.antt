@@ -6,7 +6,6 @@ use Rattle.promises.proofs.Once.Same.{told, both}
 
 pub line-once : OfLine
 line-once = record {
-  row = (λ _ _. tt, λ _ _ _ _ _ _. told refl);
   number = (λ _ _. tt, λ _ _ _ _ _ _. told refl);
   value = (λ _ _. tt, λ _ _ _ _ _ _. told refl);
   step-on = λ _ _ _ _ _ _. both refl;
