@@ -1,5 +1,7 @@
 // The bench at a prompt: a line of standard input is a call, answered at once by one line (`show` and `help`: several,
 // the last DONE).
+#![tactic(auto)]
+
 mod calls;
 mod requests;
 mod turns;

@@ -43,7 +43,7 @@ const LAP: usize = 31;
 
 // What a word asks and takes: the number of its call, the place in its line where hex digits may stand, with numbers
 // before it, and the fewest and the most words of the line.
-#[derive(Drop)]
+#[derive(Clone, Copy)]
 struct Form {
     call: usize,
     digits: usize,
@@ -52,7 +52,7 @@ struct Form {
 }
 
 // A call's number, and the numbers after its word.
-#[derive(Drop)]
+#[derive(Clone, Copy)]
 pub(crate) struct Call {
     pub(crate) call: usize,
     pub(crate) a: usize,
@@ -60,7 +60,7 @@ pub(crate) struct Call {
     pub(crate) c: usize,
 }
 
-#[derive(Drop)]
+#[derive(Clone, Copy)]
 pub(crate) enum Request {
     Error(Mistake),
     Asks(Call),

@@ -1,5 +1,5 @@
 // Which side of a card: what it sends, or what it receives.
-#[derive(Drop)]
+#[derive(Clone, Copy)]
 pub enum Way {
     Transmit,
     Receive,

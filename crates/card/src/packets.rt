@@ -9,7 +9,7 @@ use registers::regs::Regs;
 use told::numbers::{DONE, VALUE, refuse};
 
 // What a page holds, and the COUNT byte of a packet: the page offset at which its data start.
-#[derive(Drop)]
+#[derive(Clone, Copy)]
 pub enum Shape {
     Malformed,
     Short(u8),
@@ -17,14 +17,14 @@ pub enum Shape {
 }
 
 // A page of a row: where in the row it starts, and whether it may be long.
-#[derive(Drop)]
+#[derive(Clone, Copy)]
 pub struct Page {
     pub at: usize,
     pub long: bool,
 }
 
 // A packet that was read out of a page: the page's bytes, and zeros up to 512.
-#[derive(Drop)]
+#[derive(Clone, Copy)]
 pub struct Packet {
     pub shape: Shape,
     pub bytes: [u8; 512],

@@ -6,7 +6,7 @@ use bits::flags::BROADCASTS;
 use bits::way::Way;
 
 // What a byte written to register 1 asks of the card. Pages are 0 to 3.
-#[derive(Drop)]
+#[derive(Clone, Copy)]
 pub enum Command {
     Illegal,
     // Disable Transmitter, Disable Receiver.
@@ -21,7 +21,7 @@ pub enum Command {
 }
 
 // A legal byte, and its command with its page.
-#[derive(Drop)]
+#[derive(Clone, Copy)]
 struct Legal(u8, Command);
 
 const LEGAL: [Legal; 22] = [

@@ -9,7 +9,7 @@ use table::network::{HEADER, LOST, ROWS, phase, regs_at, row_from, rows, shape};
 use told::numbers::{ALONE, BUSY, DONE, ROOM, SHAPE, refuse};
 
 // A row that took the token: its node ID, its number from 0, and the invitations since the holder before.
-#[derive(Drop)]
+#[derive(Clone, Copy)]
 pub struct Taker {
     pub id: u8,
     pub row: u8,
@@ -17,14 +17,14 @@ pub struct Taker {
 }
 
 // What the lap call answers: the refusal's number, DONE for none, and the total, 0 beside a refusal.
-#[derive(Drop)]
+#[derive(Clone, Copy)]
 pub struct Lapped {
     pub number: u8,
     pub total: u16,
 }
 
 // A lap that was run: what it answers, and the takers, the first n of the list.
-#[derive(Drop)]
+#[derive(Clone, Copy)]
 pub struct Walked {
     pub lapped: Lapped,
     pub n: usize,

@@ -1,6 +1,8 @@
 // The program `lap` (document 01, "Order forms and the lap"): reads an order on standard input, loads it, runs a lap
 // and prints the takers in the order in which they took the token; or the refusal's number, with the record that it
 // names (C-12), and on standard error what is wrong.
+#![tactic(auto)]
+
 mod clerk;
 
 ghost use Rattle.std.specs.Prelude.{◌≡◌, length, ◌+◌, ◌*◌, ◌≤◌};
@@ -19,7 +21,7 @@ use table::network::ROWS;
 const ORDER: usize = RECORD * ROWS + 1;
 
 // What the lap call answers, and the list that it was lent.
-#[derive(Drop)]
+#[derive(Clone, Copy)]
 struct Listed {
     lapped: Lapped,
     list: [Taker; ROWS],

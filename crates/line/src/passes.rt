@@ -11,7 +11,7 @@ use registers::regs::Regs;
 use table::network::{HEADER, row_end};
 
 // What reaches every row at once.
-#[derive(Drop)]
+#[derive(Clone, Copy)]
 pub(crate) enum Event {
     Recovery,
     // A message of the row named, which the others hear; an invitation, or not.

@@ -11,7 +11,7 @@ use table::network::{
 use told::numbers::{DONE, SHAPE, VALUE, refuse};
 
 // What a step answers. A row is given by its number, from 0; `Unanswered` names the ID that was invited.
-#[derive(Drop)]
+#[derive(Clone, Copy)]
 pub enum Answer {
     Refused(u8),
     Quiet,

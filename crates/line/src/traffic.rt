@@ -9,7 +9,7 @@ use table::network::{node_of, put_regs, regs_at, row_at, row_end, row_start, row
 
 // What becomes of the holder's packet: where ACK or NAK answered its enquiry, the row that did; of a packet that went,
 // its shape; and of one whose ACK did not come, whether it was stored.
-#[derive(Drop)]
+#[derive(Clone, Copy)]
 pub enum Outcome {
     Nothing,
     Malformed,

@@ -11,7 +11,7 @@ use table::network::ROWS;
 use told::numbers::{DONE, FLAGS, LENGTH, MARK, NAME, ORDER_ID, TWICE, refuse};
 
 // The number of the refusal, and the bad record that it names, from 1; 0 where it names none.
-#[derive(Drop)]
+#[derive(Clone, Copy)]
 pub struct Checked {
     pub number: u8,
     pub bad: usize,

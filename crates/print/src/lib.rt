@@ -1,4 +1,6 @@
 // Text on standard output, for the programs.
+#![tactic(auto)]
+
 pub mod aside;
 pub mod gather;
 

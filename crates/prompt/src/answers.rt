@@ -11,7 +11,7 @@ use table::calls::{Interrupting, Reading};
 use words::words::part;
 
 // What was not understood.
-#[derive(Drop)]
+#[derive(Clone, Copy)]
 pub enum Mistake {
     Long,
     Spaces,
@@ -25,7 +25,7 @@ pub enum Mistake {
 }
 
 // An answer of one line: the place of its text in `TEXTS`, and the number after it where there is one.
-#[derive(Drop)]
+#[derive(Clone, Copy)]
 pub struct Told {
     pub text: usize,
     pub valued: bool,

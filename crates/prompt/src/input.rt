@@ -8,7 +8,7 @@ use libc::STDIN_FILENO;
 pub const LINE: usize = 8192;
 
 // The line that was taken last, and what stands behind it.
-#[derive(Drop)]
+#[derive(Clone, Copy)]
 pub struct Input {
     // No line was left.
     pub over: bool,

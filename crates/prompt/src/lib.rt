@@ -1,4 +1,6 @@
 // What a prompt reads and writes: the lines of standard input, and the answer lines on standard output.
+#![tactic(auto)]
+
 pub mod answers;
 pub mod help;
 pub mod input;

@@ -10,7 +10,7 @@ use bits::way::Way;
 pub(crate) const KEPT: u8 = 1 << 7;
 
 // Bytes 13, 16 and 18 of a row, or 14, 17 and 19: the oldest that waits, the second, and how many ends are not cleared.
-#[derive(Drop)]
+#[derive(Clone, Copy)]
 pub struct Queue {
     pub oldest: u8,
     pub second: u8,
@@ -18,7 +18,7 @@ pub struct Queue {
 }
 
 // A side of a card: its queue, and the status that it shares with the other side.
-#[derive(Drop)]
+#[derive(Clone, Copy)]
 pub struct Side {
     pub status: u8,
     pub queue: Queue,
@@ -120,6 +120,7 @@ impl Side {
     }
 
     // An Enable with its page, and of a receive whether broadcasts are wanted.
+    #[tactic(auto, unfolding(crate::specs::Queues::enabled))]
     pub fn enabled(self, way: Way, chaining: bool, entry: u8) -> Side
         ensures { result ≡ enabled way chaining entry self }
     {
@@ -135,6 +136,7 @@ impl Side {
     }
 
     // A Disable marks the oldest that is not marked yet.
+    #[tactic(auto, unfolding(crate::specs::Queues::disabled))]
     pub fn disabled(self, way: Way) -> Side
         ensures { result ≡ disabled way self }
     {
@@ -185,6 +187,7 @@ impl Side {
     }
 
     // The oldest ends, acknowledged or not.
+    #[tactic(auto, unfolding(crate::specs::Queues::ended))]
     pub fn ended(self, way: Way, chaining: bool, acknowledged: bool) -> Side
         ensures { result ≡ ended way chaining acknowledged self }
     {
@@ -201,6 +204,7 @@ impl Side {
     }
 
     // The cancels that were asked take effect; they are no ends.
+    #[tactic(auto, unfolding(crate::specs::Queues::cancelled))]
     pub fn cancelled(self, way: Way) -> Side
         ensures { result ≡ cancelled way self }
     {
@@ -212,6 +216,7 @@ impl Side {
     }
 
     // Clear Transmit Interrupt, or Clear Receive Interrupt: the end that is stored is shown, or none.
+    #[tactic(auto, unfolding(crate::specs::Queues::cleared))]
     pub fn cleared(self, way: Way) -> Side
         ensures { result ≡ cleared way self }
     {

@@ -40,6 +40,7 @@ impl Side {
         }
     }
 
+    #[tactic(auto, unfolding(crate::specs::Queues::fit))]
     pub fn fit(self, way: Way, chaining: bool, long: u8) -> bool
         ensures { result ≡ fit way chaining long self }
     {

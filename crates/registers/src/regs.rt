@@ -15,7 +15,7 @@ use queues::queues::Queue;
 pub(crate) const AFTER_RESET: u8 = RI | POR | TA;
 
 // Bytes 32 to 34 of a row: the byte that register 4 reads (C-13), and the count of NAKs (C-16).
-#[derive(Drop)]
+#[derive(Clone, Copy)]
 pub struct Later {
     pub fetched: u8,
     pub naklow: u8,
@@ -23,7 +23,7 @@ pub struct Later {
 }
 
 // Bytes 2 to 19 and 32 to 34 of a row; a queue has three of them.
-#[derive(Drop)]
+#[derive(Clone, Copy)]
 pub struct Regs {
     pub id: u8,
     pub status: u8,

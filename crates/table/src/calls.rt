@@ -14,14 +14,14 @@ use card::row::ROW_BYTES;
 use told::numbers::{DONE, DUPLICATE, NOTREADY, ROOM, ROW, SHAPE, VALUE, refuse};
 
 // What a read gives: the refusal's number, DONE for none, and the value, 0 beside a refusal.
-#[derive(Drop)]
+#[derive(Clone, Copy)]
 pub struct Reading {
     pub number: u8,
     pub value: u8,
 }
 
 // Whether a card's interrupt is active; false beside a refusal's number.
-#[derive(Drop)]
+#[derive(Clone, Copy)]
 pub struct Interrupting {
     pub number: u8,
     pub active: bool,

@@ -9,7 +9,7 @@ use crate::words::word;
 const MOST: usize = 4294967295;
 
 // What a word spells: whether it is a number at all, and the number, or else 0.
-#[derive(Drop)]
+#[derive(Clone, Copy)]
 pub struct Number {
     pub ok: bool,
     pub value: usize,
