@@ -176,7 +176,7 @@ pub fn packet_at(row: &[u8], page: usize) -> Packet
     let size = shape.page_bytes();
     let at = page_of(row, page).at;
     let mut bytes = [0u8; 512];
-    bytes::copy(&row[at..at + size], &mut bytes[0..size]);
+    bytes[0..size].copy_from_slice(&row[at..at + size]);
     Packet { shape, bytes }
 }
 
@@ -185,7 +185,7 @@ fn lay(row: &mut [u8], at: usize, bytes: &[u8], from: usize, to: usize)
     requires { (from ≤ to) × ((to ≤ length bytes.now) × (at + to ≤ length row.old)) }
     ensures { row.new ≡ laid (at + from) (take (to - from) (drop from bytes.now)) row.old }
 {
-    bytes::copy(&bytes[from..to], &mut row[at + from..at + to]);
+    row[at + from..at + to].copy_from_slice(&bytes[from..to]);
 }
 
 // A packet is stored at the same offsets of a page; the gap between its head and its data is untouched.

@@ -45,6 +45,7 @@ pub const NAME: u8 = 18;
 pub const TWICE: u8 = 19;
 
 // A refusal after those that gave n: an earlier number stands, else this one is told where its test holds.
+#[tactic(auto, unfolding(crate::specs::Numbers::refuse))]
 pub fn refuse(n: u8, number: u8, test: bool) -> u8
     ensures { result ≡ refuse n number test }
 {
