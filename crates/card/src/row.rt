@@ -90,6 +90,7 @@ pub fn store(row: &mut [u8], g: Regs)
 }
 
 // Each byte is zero.
+#[tactic(auto, using(crate::proofs::Words::Zeros::zeros_here, crate::proofs::Words::Zeros::zeros_not, crate::proofs::Words::Zeros::zeros_end))]
 pub fn all_zero(s: &[u8]) -> bool
     ensures { result ≡ zeros s.now }
 {
@@ -126,6 +127,7 @@ pub fn well_formed(row: &[u8]) -> bool
 }
 
 // A new row, whatever the bytes were.
+#[tactic(auto, using(crate::proofs::Words::Zeros::created))]
 pub fn create(row: &mut [u8])
     requires { length row.old ≡ row_bytes }
     ensures { row.new ≡ fresh_row }
