@@ -127,7 +127,6 @@ pub fn well_formed(row: &[u8]) -> bool
 }
 
 // A new row, whatever the bytes were.
-#[tactic(auto, using(crate::proofs::Words::Zeros::created))]
 pub fn create(row: &mut [u8])
     requires { length row.old ≡ row_bytes }
     ensures { row.new ≡ fresh_row }
