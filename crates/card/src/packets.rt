@@ -112,7 +112,7 @@ impl Shape {
 }
 
 // A page by its number: the one place that knows how long pages are, and which may be long.
-#[tactic(auto, using(crate::proofs::Rows::Sizes::whole_registers, crate::proofs::Pages::Places::page_short), unfolding(crate::specs::Packets::page_of))]
+#[tactic(auto, using(crate::proofs::Rows::Sizes::whole_registers))]
 fn page_of(row: &[u8], page: usize) -> Page
     requires whole { Whole row.now }
     requires page_bound { page < 4 }
