@@ -1,18 +1,16 @@
 -- What the code of `packets` cuts out of a row and lays in is what the definitions say.
 -- Assumes nothing.
-use mathlib.Core.Path.{◌≡◌, refl, ◌∙◌}
+use mathlib.Core.Path.{◌≡◌, ◌∙◌}
 use mathlib.Core.List.{List, ◌++◌}
-use Prim.Native.Nat.{ℕ, ◌+◌, ◌-◌, ◌≤◌, ◌<◌}
+use Prim.Native.Nat.{ℕ, ◌+◌, ◌-◌}
 use native.Mathlib.Nat.{add-zero}
 use native.Mathlib.Omega.{arith}
-use lib.ListN.{length, take, drop, replicate, length-take}
-use borrow.Rule.Slice.PartMut.{mid_of, put_mid}
+use lib.ListN.{drop, replicate}
+use borrow.Rule.Slice.PartMut.{mid_of}
 use Rattle.card.specs.declared.packets.Shape.{Shape}
 use Rattle.card.specs.declared.packets.Packet.{Packet}
-use Rattle.card.specs.Row.{Whole}
 use Rattle.card.specs.Packets.{data_bytes, data_at, head_bytes, page_bytes, page_at, page_shape, packet_at, laid, stored}
 use Rattle.card.proofs.Words.Laid.{part_length, zeros_left}
-use Rattle.card.proofs.Pages.Sizes.{page_fits}
 
 -- what the code of `packet_at` makes is the packet: z are its zeros, and y is what the copy left of the first n of them
 module _ (r : List ℕ) (p : ℕ) (s : Shape) (e : s ≡ page_shape r p) where

@@ -1,12 +1,11 @@
 -- A list laid over a part of another.
 -- Assumes nothing.
-use mathlib.Core.Path.{◌≡◌, refl, sym, ◌∙◌, ap}
+use mathlib.Core.Path.{◌≡◌, refl, ◌∙◌, ap}
 use mathlib.Core.List.{List, ◌++◌}
 use Prim.Native.Nat.{ℕ, zero, suc, ◌+◌, ◌-◌, ◌≤◌, ◌<◌}
 use native.Mathlib.Omega.{arith}
-use lib.ListN.{length, get_or, take, drop, replicate, length-take, length-drop, length-append, take-append-drop, drop_of_length-le, get_or-append}
-use lib.Seq.{drop-length, length-take-le, take_at, drop_at, get_or-take, get_or-drop, get_or-append-add}
-use borrow.Rule.Slice.PartMut.{mid_of, put_mid}
+use lib.ListN.{length, get_or, take, drop, replicate, length-drop, length-append, get_or-append}
+use lib.Seq.{length-take-le, take_at, drop_at, get_or-take, get_or-drop, get_or-append-add}
 use Rattle.card.specs.Packets.{laid}
 
 -- the length of a part as the code lends it
