@@ -1,8 +1,7 @@
 //! The fixed cases of document 01, "Sums to prove and sums to run", two of its "differ" for every pair
-//! of rows and of records (C-14), two of request C-12, one of C-11, three of C-13, those of C-15 and of
-//! C-16, and the sweeps.
+//! of rows and of records (C-14), two of request C-12, one of C-11, three of C-13, those of C-16, and the
+//! sweeps.
 
-mod clock;
 mod naks;
 
 use crate::model::{Network, MOST_ROWS};
@@ -20,7 +19,7 @@ enum Case {
     Sweep(fn(&mut dyn Peer) -> Result<(), String>),
 }
 
-const CASES: [(&str, Case); 29] = [
+const CASES: [(&str, Case); 21] = [
     ("one row refuses ALONE", Case::Lines(one_row)),
     ("60 rows load, 61 refuse", Case::Lines(sixty_and_one)),
     (
@@ -86,32 +85,6 @@ const CASES: [(&str, Case); 29] = [
     (
         "the bytes of a count that are well formed",
         Case::Lines(naks::bytes),
-    ),
-    ("each answer takes its time", Case::Lines(clock::answers)),
-    (
-        "ET2 and ET1 choose one of four rows of times",
-        Case::Lines(clock::four_rows_of_times),
-    ),
-    (
-        "a packet takes the time of its data bytes",
-        Case::Lines(clock::packets),
-    ),
-    (
-        "a recovery is one burst, whatever led to it",
-        Case::Lines(clock::recoveries),
-    ),
-    ("a lap takes what its steps take", Case::Lines(clock::laps)),
-    (
-        "MIXED is for rows on line, after all else",
-        Case::Lines(clock::mixed),
-    ),
-    (
-        "the times of every configuration",
-        Case::Sweep(sweeps::configurations_clocked),
-    ),
-    (
-        "the times of every COUNT",
-        Case::Sweep(sweeps::counts_clocked),
     ),
     (
         "the values that each register takes",

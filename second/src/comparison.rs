@@ -6,7 +6,7 @@ use std::collections::VecDeque;
 use crate::model::Network;
 use crate::peer::Peer;
 use crate::prompt::{Lent, Prompt};
-use crate::sights::{clock, fetched, naks, named, orders, View, Watch};
+use crate::sights::{fetched, naks, named, orders, View, Watch};
 use crate::tally::Tally;
 
 /// Calls sent at a time. While the peer works on them the next ones are made.
@@ -48,7 +48,6 @@ pub struct Comparison<'a> {
     watch: Watch,
     fetched: fetched::Watch,
     naks: naks::Watch,
-    clock: clock::Watch,
     tally: Tally,
 }
 
@@ -76,7 +75,6 @@ impl<'a> Comparison<'a> {
             watch: Watch::default(),
             fetched: fetched::Watch::default(),
             naks: naks::Watch::default(),
-            clock: clock::Watch::default(),
             tally: Tally::default(),
         }
     }
@@ -122,40 +120,19 @@ impl<'a> Comparison<'a> {
 
     /// The answer to a call here, and what it met.
     fn call_here(&mut self, line: &[u8]) -> (String, Vec<String>) {
-        let text = String::from_utf8_lossy(line);
-        let words: Vec<&str> = text.split(' ').collect();
-        let turns = match (words.as_slice(), self.network()) {
-            (["clocklap", _], Some(network)) => clock::turns(network),
-            _ => Vec::new(),
-        };
         let before = self.network().map(View::of);
         let answer = self.own.answer(line);
         let after = self.network().map(View::of);
+        let text = String::from_utf8_lossy(line);
+        let words: Vec<&str> = text.split(' ').collect();
         let (before, after) = (before.as_ref(), after.as_ref());
-        // What a clocked call meets of all else is what the plain call does.
-        let mut sights = match clock::without_time(&words, &answer) {
-            Some((words, answer)) => self.sights(&words, &answer, before, after),
-            None => self.sights(&words, &answer, before, after),
-        };
-        sights.extend(self.clock.sights(&words, &answer, before, after, &turns));
+        let mut sights = self.watch.sights(&words, before, after);
+        sights.extend(self.fetched.sights(&words, &answer, before, after));
+        sights.extend(self.naks.sights(&words, &answer, before, after));
+        sights.extend(named::sights(&answer, before));
+        sights.extend(orders::sights(&words, self.own.lent().length()));
         self.tally.record(&words, &answer, &sights);
         (answer, sights)
-    }
-
-    /// What a call met but for the clock.
-    fn sights(
-        &mut self,
-        words: &[&str],
-        answer: &str,
-        before: Option<&View>,
-        after: Option<&View>,
-    ) -> Vec<String> {
-        let mut sights = self.watch.sights(words, before, after);
-        sights.extend(self.fetched.sights(words, answer, before, after));
-        sights.extend(self.naks.sights(words, answer, before, after));
-        sights.extend(named::sights(answer, before));
-        sights.extend(orders::sights(words, self.own.lent().length()));
-        sights
     }
 
     /// Keeps what the peer answers from now on.

@@ -1,9 +1,7 @@
-//! Document 01, "One line step", with requests C-11 and C-16, and the lap call; both also clocked, which is
-//! request C-15.
+//! Document 01, "One line step", with requests C-11 and C-16, and the lap call.
 
-use crate::clock::{Sound, Sounds};
 use crate::model::{Network, Phase, Row};
-use crate::packet::{Layout, Packet};
+use crate::packet::Packet;
 use crate::refusal::Refusal;
 
 #[derive(Clone, Copy, Debug, PartialEq, Eq)]
@@ -56,14 +54,6 @@ pub struct Taker {
     pub invitations: u32,
 }
 
-/// The packet that the holder tries at its turn.
-#[derive(Clone, Copy)]
-struct Waiting {
-    holder: usize,
-    page: u8,
-    layout: Layout,
-}
-
 impl Row {
     /// The oldest transmit ends. The TMA of a completion that is not cleared stays shown; then the
     /// new one is stored, also over one that is stored.
@@ -106,34 +96,12 @@ impl Row {
 
 impl Network {
     pub fn step(&mut self, fault: u32) -> Result<Step, Refusal> {
-        let fault = Fault::from_number(fault)?;
-        Ok(self.step_with(fault, &mut Sounds::new()))
+        Ok(self.step_with(Fault::from_number(fault)?))
     }
 
-    /// The same, and how long it takes.
-    pub fn clocked_step(&mut self, fault: u32) -> Result<(Step, u64), Refusal> {
-        let fault = Fault::from_number(fault)?;
-        let times = self.times()?;
-        let mut sounds = Sounds::new();
-        let step = self.step_with(fault, &mut sounds);
-        Ok((step, times.tenths(&sounds)))
-    }
-
+    /// Starts in LOST and ends where the first holder is passed the token again, in TAKEN, before
+    /// that holder's own turn: so it makes 256 + 2n line steps.
     pub fn lap(&mut self, room: usize) -> Result<Vec<Taker>, Refusal> {
-        self.may_lap(room)?;
-        Ok(self.go_round(&mut Sounds::new()))
-    }
-
-    /// The same, and how long it takes.
-    pub fn clocked_lap(&mut self, room: usize) -> Result<(Vec<Taker>, u64), Refusal> {
-        self.may_lap(room)?;
-        let times = self.times()?;
-        let mut sounds = Sounds::new();
-        let takers = self.go_round(&mut sounds);
-        Ok((takers, times.tenths(&sounds)))
-    }
-
-    fn may_lap(&self, room: usize) -> Result<(), Refusal> {
         let on_line = self.on_line_count();
         if self.phase != Phase::Lost {
             return Err(Refusal::Busy);
@@ -144,28 +112,23 @@ impl Network {
         if room < on_line {
             return Err(Refusal::Room);
         }
-        Ok(())
-    }
-
-    /// Starts in LOST and ends where the first holder is passed the token again, in TAKEN, before
-    /// that holder's own turn: so it makes 256 + 2n line steps.
-    fn go_round(&mut self, sounds: &mut Sounds) -> Vec<Taker> {
-        let mut takers = Vec::with_capacity(self.on_line_count());
+        let mut takers = Vec::with_capacity(on_line);
         let mut first = None;
         let mut invitations = 0;
         loop {
-            match self.step_with(Fault::None, sounds) {
+            match self.step_with(Fault::None) {
                 Step::Recovered(row) => first = Some(row),
                 Step::Unanswered(_) => invitations += 1,
                 Step::Passed(row) => {
+                    let node_id = self.rows[row].node_id;
                     takers.push(Taker {
-                        node_id: self.rows[row].node_id,
+                        node_id,
                         row,
                         invitations: invitations + 1,
                     });
                     invitations = 0;
                     if first == Some(row) {
-                        return takers;
+                        return Ok(takers);
                     }
                 }
                 Step::Quiet | Step::TokenLost | Step::Held(_) => {}
@@ -173,19 +136,18 @@ impl Network {
         }
     }
 
-    /// What it puts on the line comes behind the sounds that are there.
-    fn step_with(&mut self, fault: Fault, sounds: &mut Sounds) -> Step {
+    fn step_with(&mut self, fault: Fault) -> Step {
         match self.phase {
-            Phase::Lost => self.recover(sounds),
-            Phase::Pass { holder } => self.invite(holder, fault, sounds),
+            Phase::Lost => self.recover(),
+            Phase::Pass { holder } => self.invite(holder, fault),
             Phase::Taken { holder } => {
                 self.phase = Phase::Pass { holder };
-                Step::Held(self.take_turn(holder, fault, sounds))
+                Step::Held(self.take_turn(holder, fault))
             }
         }
     }
 
-    fn recover(&mut self, sounds: &mut Sounds) -> Step {
+    fn recover(&mut self) -> Step {
         let highest = (0..self.rows.len())
             .filter(|row| self.rows[*row].on_line())
             .max_by_key(|row| self.rows[*row].node_id);
@@ -199,14 +161,11 @@ impl Network {
             }
         }
         self.phase = Phase::Pass { holder };
-        let holder_id = self.rows[holder].node_id;
-        sounds.push(Sound::Recovery { holder_id });
         Step::Recovered(holder)
     }
 
-    fn invite(&mut self, holder: usize, fault: Fault, sounds: &mut Sounds) -> Step {
+    fn invite(&mut self, holder: usize, fault: Fault) -> Step {
         self.others_hear(holder);
-        sounds.push(Sound::INVITATION);
         if fault == Fault::InvitationDestroyed {
             self.phase = Phase::Lost;
             return Step::TokenLost;
@@ -217,10 +176,8 @@ impl Network {
         let invited = self.rows[holder].nid;
         let Some(taker) = self.other_on_line(holder, invited) else {
             self.rows[holder].nid = invited.wrapping_add(1);
-            sounds.push(Sound::NoAnswer);
             return Step::Unanswered(invited);
         };
-        sounds.push(Sound::Turnaround);
         for row in self
             .rows
             .iter_mut()
@@ -236,93 +193,57 @@ impl Network {
         Step::Passed(taker)
     }
 
-    /// The holder's turn in TAKEN. A NAK leaves its packet waiting; any other outcome ends the transmit.
-    fn take_turn(&mut self, holder: usize, fault: Fault, sounds: &mut Sounds) -> Outcome {
+    /// The holder's turn in TAKEN.
+    fn take_turn(&mut self, holder: usize, fault: Fault) -> Outcome {
         let row = &mut self.rows[holder];
         row.cancels_take_effect();
         let Some(page) = row.transmit.queue.oldest().map(|transmit| transmit.page) else {
             return Outcome::Nothing;
         };
-        let packet = row.layout(page).map(|layout| Waiting {
-            holder,
-            page,
-            layout,
-        });
-        let outcome = match packet {
-            Some(packet) => self.try_packet(packet, fault, sounds),
-            None => Outcome::Malformed,
+        let Some(layout) = row.layout(page) else {
+            row.transmit_ends(false);
+            return Outcome::Malformed;
         };
-        let row = &mut self.rows[holder];
-        match outcome {
-            Outcome::Nak(_) => row.transmit.nak(),
-            Outcome::Delivered(_) => row.transmit_ends(true),
-            _ => row.transmit_ends(false),
-        }
-        outcome
-    }
-
-    /// Something is sent, a packet for all or an enquiry.
-    fn try_packet(&mut self, packet: Waiting, fault: Fault, sounds: &mut Sounds) -> Outcome {
-        let Waiting { holder, page, .. } = packet;
-        let did = self.rows[holder].did(page);
+        let did = row.did(page);
+        // From here on something is sent, an enquiry or a broadcast packet.
         self.others_hear(holder);
         if did == 0 {
-            self.broadcast(packet, fault, sounds);
+            let packet = self.rows[holder].send(page, layout);
+            self.broadcast(holder, &packet, fault);
+            self.rows[holder].transmit_ends(false);
             return Outcome::Broadcast;
         }
-        sounds.push(Sound::ENQUIRY);
         let Some(target) = self.other_on_line(holder, did) else {
-            sounds.push(Sound::NoAnswer);
+            self.rows[holder].transmit_ends(false);
             return Outcome::NoAnswer;
         };
         // ACK or NAK answers the enquiry, and the holder hears it.
-        sounds.extend(Sound::REPLY);
         self.rows[holder].diagnostic.rcvact = true;
         if self.rows[target].ri() {
-            Outcome::Nak(target)
-        } else if self.acknowledged(packet, target, fault, sounds) {
+            self.rows[holder].transmit.nak();
+            return Outcome::Nak(target);
+        }
+        let packet = self.rows[holder].send(page, layout);
+        let stored = fault != Fault::PacketDamaged && self.rows[target].store(&packet);
+        let heard = stored && fault != Fault::AckLost;
+        self.rows[holder].transmit_ends(heard);
+        if heard {
             Outcome::Delivered(target)
         } else {
             Outcome::Unacknowledged(target)
         }
     }
 
-    /// The packet goes to one row. Whether the holder hears an ACK to it.
-    fn acknowledged(
-        &mut self,
-        packet: Waiting,
-        target: usize,
-        fault: Fault,
-        sounds: &mut Sounds,
-    ) -> bool {
-        let packet = self.send(packet, sounds);
-        let stored = fault != Fault::PacketDamaged && self.rows[target].store(&packet);
-        let heard = stored && fault != Fault::AckLost;
-        if heard {
-            sounds.extend(Sound::REPLY);
-        } else {
-            sounds.push(Sound::NoAnswer);
-        }
-        heard
-    }
-
-    /// The packet goes to all. Every other awake row, on line or not, decides for itself.
-    fn broadcast(&mut self, packet: Waiting, fault: Fault, sounds: &mut Sounds) {
-        let holder = packet.holder;
-        let packet = self.send(packet, sounds);
+    /// Every other awake row, on line or not, decides for itself.
+    fn broadcast(&mut self, holder: usize, packet: &Packet, fault: Fault) {
         if fault == Fault::PacketDamaged {
             return;
         }
         for row in self.other_awake(holder) {
             if row.wants_broadcasts() {
-                row.store(&packet);
+                row.store(packet);
             }
         }
-    }
-
-    fn send(&mut self, packet: Waiting, sounds: &mut Sounds) -> Packet {
-        sounds.push(Sound::packet(packet.layout));
-        self.rows[packet.holder].send(packet.page, packet.layout)
     }
 
     fn other_awake(&mut self, than: usize) -> impl Iterator<Item = &mut Row> {

@@ -1,9 +1,8 @@
-//! The second program: document 01 with requests C-11, C-12, C-13, C-15, C-16 and C-20, held against the
+//! The second program: document 01 with requests C-11, C-12, C-13, C-16 and C-20, held against the
 //! program `bench`.
 
 mod benchmark;
 mod cases;
-mod clock;
 mod comparison;
 mod line;
 mod material;
@@ -11,7 +10,6 @@ mod model;
 mod order;
 mod packet;
 mod peer;
-mod plan;
 mod prompt;
 mod queue;
 mod refusal;
@@ -25,7 +23,7 @@ mod tally;
 #[cfg(test)]
 mod tests;
 
-use std::io::{self, BufRead, Read, Write};
+use std::io::{self, BufRead, Write};
 use std::process::ExitCode;
 use std::time::Instant;
 
@@ -40,8 +38,7 @@ second self CALLS SEED                         the same against the prompt of th
 second shuffled CALLS SEED -- COMMAND ARGS..   random calls, and the same with rows in another order
 second cases -- COMMAND ARGS..                 the fixed cases
 second bench -- COMMAND ARGS..                 how fast it is
-second prompt                                  answers the lines of standard input itself
-second plan                                    how long the laps of the order on standard input take";
+second prompt                                  answers the lines of standard input itself";
 
 fn main() -> ExitCode {
     let arguments: Vec<String> = std::env::args().skip(1).collect();
@@ -59,7 +56,6 @@ fn main() -> ExitCode {
             start(&arguments[2..]).and_then(|mut peer| benchmark::run(&mut peer))
         }
         ["prompt"] => prompt().map_err(|error| error.to_string()),
-        ["plan"] => plan().map_err(|error| error.to_string()),
         _ => {
             eprintln!("{USAGE}");
             return ExitCode::from(2);
@@ -86,13 +82,6 @@ fn prompt() -> io::Result<()> {
         writeln!(answers, "{}", prompt.answer(&line?))?;
     }
     Ok(())
-}
-
-/// Prints what `plan` prints for the order on standard input.
-fn plan() -> io::Result<()> {
-    let mut order = Vec::new();
-    io::stdin().lock().read_to_end(&mut order)?;
-    io::stdout().write_all(plan::text(&order).as_bytes())
 }
 
 fn number(text: &str) -> Result<u64, String> {

@@ -253,14 +253,6 @@ pub fn plain_configuration(rng: &mut Rng) -> u8 {
     configuration | rng.pick(&[0x00, 0x40])
 }
 
-/// The ET bits of a configuration, ET1 and ET2, in each way that they can be.
-pub const ETS: [u8; 4] = [0x18, 0x08, 0x10, 0x00];
-
-/// A configuration with other ET bits.
-pub fn with_et(configuration: u8, et: u8) -> u8 {
-    configuration & !ETS[0] | et
-}
-
 /// A configuration with CCHEN as it is to be.
 pub fn with_chaining(configuration: u8, cchen: bool) -> u8 {
     let configuration = Configuration::from_byte(configuration);
@@ -313,7 +305,7 @@ pub fn packet_header(rng: &mut Rng, did: u8, long: bool) -> Vec<u8> {
 
 /// The words of the prompt with the number of their arguments; the last of `poke` and `load` is in
 /// hex.
-const WORDS: [(&str, usize); 17] = [
+const WORDS: [(&str, usize); 15] = [
     ("size", 1),
     ("poke", 2),
     ("peek", 2),
@@ -329,8 +321,6 @@ const WORDS: [(&str, usize); 17] = [
     ("step", 1),
     ("data", 2),
     ("lap", 1),
-    ("clockstep", 1),
-    ("clocklap", 1),
 ];
 
 const NOT_NUMBERS: [&str; 10] = [
@@ -349,7 +339,7 @@ const NOT_NUMBERS: [&str; 10] = [
 const NOT_HEX: [&str; 6] = ["4", "414", "4G", "g0", "-1", "0x"];
 
 /// Past the limits of the buffer and of the list, whatever the length is.
-const BEYOND: [&str; 11] = [
+const BEYOND: [&str; 9] = [
     "size 66401",
     "size 4294967295",
     "poke 66400 00",
@@ -359,8 +349,6 @@ const BEYOND: [&str; 11] = [
     "peek 4294967295 4294967295",
     "lap 71",
     "lap 4294967295",
-    "clocklap 71",
-    "clocklap 4294967295",
 ];
 
 /// A line that is not understood, whatever the network is.
@@ -369,18 +357,7 @@ pub fn not_understood(rng: &mut Rng) -> Vec<u8> {
         0 => misshapen(rng).into_bytes(),
         1 => rng.pick(&BEYOND).into(),
         2 => rng
-            .pick(&[
-                "",
-                " ",
-                "  ",
-                "xyzzy",
-                "sums",
-                "siz 0",
-                "DONE",
-                "sum\tsum",
-                "clock 0",
-                "clock step 0",
-            ])
+            .pick(&["", " ", "  ", "xyzzy", "sums", "siz 0", "DONE", "sum\tsum"])
             .into(),
         3 => {
             // No word of the prompt can come of it: no byte is a letter.

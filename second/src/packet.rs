@@ -18,17 +18,6 @@ impl Layout {
     pub fn long(self) -> bool {
         self.end > PAGE
     }
-
-    /// N, the number of data bytes.
-    pub fn data_bytes(self) -> usize {
-        self.end - self.data
-    }
-
-    /// So many characters it has on the line: beside those of the page SOH, the DID once more and two of
-    /// CRC.
-    pub fn characters(self) -> usize {
-        self.header + self.data_bytes() + 4
-    }
 }
 
 /// A packet under way.

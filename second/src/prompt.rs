@@ -182,13 +182,6 @@ impl Prompt {
             [b"fresh", rows] => self.fresh(number(rows)?),
             [b"load"] => self.load(&[]),
             [b"load", order] => self.load(&hex(order)?),
-            _ => self.call(&words),
-        }
-    }
-
-    /// The words that call a network.
-    fn call(&mut self, words: &[&[u8]]) -> Answer {
-        match words {
             [b"read", row, register] => self.read(number(row)?, number(register)?),
             [b"write", row, register, value] => {
                 let (row, register, value) = (number(row)?, number(register)?, number(value)?);
@@ -210,14 +203,15 @@ impl Prompt {
                 let active = self.lent.network()?.interrupt(row)?;
                 Ok(format!("DONE {}", u8::from(active)))
             }
+            [b"step", fault] => {
+                let fault = number(fault)?;
+                Ok(step_text(self.lent.network_mut()?.step(fault)?))
+            }
             [b"data", row, page] => {
                 let (row, page) = (number(row)?, number(page)?);
                 Ok(done_hex(self.lent.network()?.data(row, page)?))
             }
-            [b"step", fault] => self.step(number(fault)?),
-            [b"clockstep", fault] => self.clockstep(number(fault)?),
-            [b"lap", room] => self.lap(lent_room(room)?),
-            [b"clocklap", room] => self.clocklap(lent_room(room)?),
+            [b"lap", room] => self.lap(number(room)?),
             _ => Err(Complaint::NotUnderstood("no such line")),
         }
     }
@@ -264,25 +258,12 @@ impl Prompt {
         Ok(format!("DONE {value}"))
     }
 
-    fn step(&mut self, fault: u32) -> Answer {
-        Ok(step_text(self.lent.network_mut()?.step(fault)?))
-    }
-
-    fn clockstep(&mut self, fault: u32) -> Answer {
-        let (step, tenths) = self.lent.network_mut()?.clocked_step(fault)?;
-        Ok(format!("{} {tenths}", step_text(step)))
-    }
-
-    fn lap(&mut self, room: usize) -> Answer {
-        let takers = self.lent.network_mut()?.lap(room)?;
-        let total = total(&takers);
-        Ok(format!("DONE {total}{}", takers_text(&takers)))
-    }
-
-    fn clocklap(&mut self, room: usize) -> Answer {
-        let (takers, tenths) = self.lent.network_mut()?.clocked_lap(room)?;
-        let total = total(&takers);
-        Ok(format!("DONE {total} {tenths}{}", takers_text(&takers)))
+    fn lap(&mut self, room: u32) -> Answer {
+        if room > MOST_ROOM {
+            return Err(Complaint::NotUnderstood("more room than there is"));
+        }
+        let takers = self.lent.network_mut()?.lap(room as usize)?;
+        Ok(lap_text(&takers))
     }
 }
 
@@ -318,22 +299,18 @@ pub fn hex_text(bytes: &[u8]) -> String {
         .collect()
 }
 
-/// Invitations of a lap.
-fn total(takers: &[Taker]) -> u32 {
-    takers.iter().map(|taker| taker.invitations).sum()
-}
-
-/// ID, row and invitations of each, a space before every number.
-fn takers_text(takers: &[Taker]) -> String {
-    let text = |taker: &Taker| {
-        let Taker {
-            node_id,
-            row,
-            invitations,
-        } = taker;
-        format!(" {node_id} {row} {invitations}")
-    };
-    takers.iter().map(text).collect()
+fn lap_text(takers: &[Taker]) -> String {
+    let total: u32 = takers.iter().map(|taker| taker.invitations).sum();
+    let mut text = format!("DONE {total}");
+    for Taker {
+        node_id,
+        row,
+        invitations,
+    } in takers
+    {
+        text += &format!(" {node_id} {row} {invitations}");
+    }
+    text
 }
 
 fn step_text(step: Step) -> String {
@@ -365,15 +342,6 @@ fn number(word: &[u8]) -> Result<u32, Complaint> {
     let text = std::str::from_utf8(word).ok().filter(|_| digits);
     text.and_then(|text| text.parse().ok())
         .ok_or(Complaint::NotUnderstood("not a number"))
-}
-
-/// Entries that are lent to a lap.
-fn lent_room(word: &[u8]) -> Result<usize, Complaint> {
-    let room = number(word)?;
-    if room > MOST_ROOM {
-        return Err(Complaint::NotUnderstood("more room than there is"));
-    }
-    Ok(room as usize)
 }
 
 fn hex(word: &[u8]) -> Result<Vec<u8>, Complaint> {

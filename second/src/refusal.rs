@@ -2,7 +2,7 @@
 
 /// A refusal by its number. 11 is not given again (request C-20): SHAPE comes first and already
 /// asks that outside LOST the holder is on line. 14 to 19 are the reasons to refuse an order
-/// (request C-12), and 20 only clocked calls give (request C-15).
+/// (request C-12).
 #[derive(Clone, Copy, Debug, PartialEq, Eq)]
 pub enum Refusal {
     Shape = 1,
@@ -23,7 +23,6 @@ pub enum Refusal {
     Flags = 17,
     Name = 18,
     Twice = 19,
-    Mixed = 20,
 }
 
 impl Refusal {
@@ -51,7 +50,6 @@ impl Refusal {
             Refusal::Flags => "FLAGS",
             Refusal::Name => "NAME",
             Refusal::Twice => "TWICE",
-            Refusal::Mixed => "MIXED",
         }
     }
 }

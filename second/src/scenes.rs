@@ -1,14 +1,13 @@
 //! The scenes a campaign is made of. Each looks at the network as it stands and makes some calls;
 //! which scene comes, and what it does, the seed decides.
 
-mod clock;
 mod fetched;
 mod naks;
 mod queues;
 mod shuffled;
 
 use crate::comparison::Comparison;
-use crate::material::{self, ETS, WIDE};
+use crate::material::{self, WIDE};
 use crate::model::{
     Network, Phase, Row, CHAINING, HEADER, MOST_ROWS, NAKS, PAGE, RAM, REGISTERS, ROW,
 };
@@ -49,7 +48,7 @@ impl<'a> Player<'a> {
 
     fn scene(&mut self) -> Played {
         let weights = [
-            3, 6, 7, 4, 4, 13, 13, 5, 9, 11, 8, 4, 15, 9, 3, 31, 12, 3, 19, 14,
+            3, 6, 7, 4, 4, 13, 13, 5, 9, 11, 8, 4, 15, 8, 3, 31, 12, 3, 18,
         ];
         match self.rng.weighted(&weights) {
             0 => self.new_network(),
@@ -70,8 +69,7 @@ impl<'a> Player<'a> {
             15 => self.queues(),
             16 => self.reads_ahead(),
             17 => self.in_another_order(),
-            18 => self.naks(),
-            _ => self.clocks(),
+            _ => self.naks(),
         }
     }
 
@@ -143,13 +141,9 @@ impl<'a> Player<'a> {
         self.some_row_that(Row::chaining)
     }
 
-    /// Writes a configuration, with CCHEN as the row has it, and most often with its times.
+    /// Writes a configuration, with CCHEN as the row has it.
     fn configure(&mut self, row: usize, configuration: u8) -> Played {
         let chaining = self.row(row).is_some_and(Row::chaining);
-        let configuration = match self.et_of(row) {
-            Some(et) if !self.rng.one_in(20) => material::with_et(configuration, et),
-            _ => configuration,
-        };
         self.write(row, 6, material::with_chaining(configuration, chaining))
     }
 
@@ -187,29 +181,9 @@ impl<'a> Player<'a> {
         }
     }
 
-    /// A step, clocked or not.
     fn step(&mut self) -> Played {
         let fault = self.fault();
-        let word = if self.clocked() { "clockstep" } else { "step" };
-        self.call(&format!("{word} {fault}"))
-    }
-
-    /// Most often the plain call is made; MIXED, which leaves the line where it is, comes rarely.
-    fn clocked(&mut self) -> bool {
-        let chances = if self.mixed() { 40 } else { 8 };
-        self.rng.one_in(chances)
-    }
-
-    /// Whether rows on line have other times than each other.
-    fn mixed(&mut self) -> bool {
-        let times = self.both.network().map(Network::times);
-        matches!(times, Some(Err(_)))
-    }
-
-    /// The ET bits of a row, which choose its times.
-    fn et_of(&mut self, row: usize) -> Option<u8> {
-        let configuration = self.row(row)?.configuration.byte();
-        Some(configuration & ETS[0])
+        self.call(&format!("step {fault}"))
     }
 
     fn steps(&mut self, count: usize) -> Played {
@@ -225,16 +199,7 @@ impl<'a> Player<'a> {
             };
             self.call(&format!("timer {row}"))?;
         }
-        let lap = self.lap_word();
-        self.call(&format!("{lap} {MOST_ROOM}"))
-    }
-
-    fn lap_word(&mut self) -> &'static str {
-        if self.clocked() {
-            "clocklap"
-        } else {
-            "lap"
-        }
+        self.call(&format!("lap {MOST_ROOM}"))
     }
 
     /// One call of any of the words that ask SHAPE.
@@ -279,22 +244,16 @@ impl<'a> Player<'a> {
     }
 
     fn any_lap(&mut self) -> Played {
-        let room = self.some_room();
-        let lap = self.lap_word();
-        self.call(&format!("{lap} {room}"))
-    }
-
-    /// Room for the takers of a lap, or too little.
-    fn some_room(&mut self) -> usize {
         let on_line = self.on_line_count();
-        match self.rng.below(7) {
+        let room = match self.rng.below(7) {
             0 | 1 => on_line,
             2 => on_line.saturating_sub(1),
             3 => self.rng.below(on_line + 1),
             4 => on_line + 1,
             5 => 0,
             _ => MOST_ROOM as usize,
-        }
+        };
+        self.call(&format!("lap {room}"))
     }
 
     // Networks.

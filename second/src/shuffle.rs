@@ -80,17 +80,28 @@ impl Shuffle {
         Network::length_for(self.row(behind / ROW)) + behind % ROW
     }
 
-    /// The answer to a line with the rows that it names renamed; a time stays. To a `peek` of the whole
-    /// length it is the network.
+    /// The answer to a line with the rows that it names renamed. To a `peek` of the whole length it
+    /// is the network.
     pub fn answer(&self, line: &str, answer: &str) -> String {
         let words: Vec<&str> = answer.split(' ').collect();
         match (line.split(' ').next(), words.as_slice()) {
-            (Some("step" | "clockstep"), step) => self.step(step),
-            (Some("lap"), ["DONE", total, takers @ ..]) => {
-                format!("DONE {total}{}", self.takers(takers))
+            (Some("step"), [word @ ("RECOVERED" | "PASSED"), row]) => {
+                format!("{word} {}", self.renamed(row))
             }
-            (Some("clocklap"), ["DONE", total, tenths, takers @ ..]) => {
-                format!("DONE {total} {tenths}{}", self.takers(takers))
+            (Some("step"), ["HELD", outcome @ ("NAK" | "DELIVERED" | "UNACKNOWLEDGED"), row]) => {
+                format!("HELD {outcome} {}", self.renamed(row))
+            }
+            (Some("lap"), ["DONE", total, takers @ ..]) => {
+                let mut text = format!("DONE {total}");
+                // An entry is an ID, a row and a count.
+                for (place, word) in takers.iter().enumerate() {
+                    text += " ";
+                    match place % 3 {
+                        1 => text += &self.renamed(word),
+                        _ => text += word,
+                    }
+                }
+                text
             }
             (Some("peek"), ["DONE", digits]) => {
                 let network = from_hex(digits);
@@ -104,30 +115,6 @@ impl Shuffle {
             }
             _ => answer.to_string(),
         }
-    }
-
-    /// A time may be behind what the plain step answers.
-    fn step(&self, answer: &[&str]) -> String {
-        let told = match answer {
-            ["RECOVERED" | "PASSED", ..] => Some(1),
-            ["HELD", "NAK" | "DELIVERED" | "UNACKNOWLEDGED", ..] => Some(2),
-            _ => None,
-        };
-        let renamed = |(place, word): (usize, &&str)| match told {
-            Some(told) if place == told => self.renamed(word),
-            _ => word.to_string(),
-        };
-        let words: Vec<String> = answer.iter().enumerate().map(renamed).collect();
-        words.join(" ")
-    }
-
-    /// The entries of a lap, an ID, a row and a count each, with a space before every number.
-    fn takers(&self, words: &[&str]) -> String {
-        let renamed = |(place, word): (usize, &&str)| match place % 3 {
-            1 => format!(" {}", self.renamed(word)),
-            _ => format!(" {word}"),
-        };
-        words.iter().enumerate().map(renamed).collect()
     }
 
     /// Where each row goes, for a person.

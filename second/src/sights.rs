@@ -1,14 +1,12 @@
 //! What a call meets that its words do not say: what waits in a row, what is not cleared, which
 //! byte was changed before. The tally counts each of these sights with the answer that came.
 
-pub mod clock;
 pub mod fetched;
 pub mod naks;
 pub mod named;
 pub mod orders;
 
 use crate::model::{Configuration, Diagnostic, Mask, Network, Phase, Row, HEADER, REGISTERS, ROW};
-use crate::packet::Layout;
 use crate::queue::{Enabled, Queue, Side, MOST_NAKS};
 use crate::registers::Command;
 
@@ -116,7 +114,6 @@ pub fn can_come() -> Vec<(String, &'static [&'static str])> {
     all.extend(fetched::can_come());
     all.extend(naks::can_come());
     all.extend(named::can_come());
-    all.extend(clock::can_come());
     all
 }
 
@@ -228,8 +225,6 @@ struct Glance {
     recon: bool,
     diagnostic: Diagnostic,
     mask: Mask,
-    configuration: Configuration,
-    setup: u8,
     nid: u8,
     transmit: Side,
     receive: Side,
@@ -250,8 +245,6 @@ impl Glance {
             recon: row.recon,
             diagnostic: row.diagnostic,
             mask: row.mask,
-            configuration: row.configuration,
-            setup: row.setup,
             nid: row.nid,
             transmit: row.transmit,
             receive: row.receive,
@@ -286,9 +279,8 @@ impl Glance {
 pub struct View {
     phase: Phase,
     rows: Vec<Glance>,
-    /// What waits in the row that has been passed the token, the oldest first; without a layout where it
-    /// is malformed.
-    waiting: Vec<(Enabled, Option<Layout>)>,
+    /// Whether the packet that the holder is about to try is long; None where there is none.
+    packet_is_long: Option<bool>,
 }
 
 impl View {
@@ -296,27 +288,8 @@ impl View {
         View {
             phase: network.phase,
             rows: network.rows.iter().map(Glance::at).collect(),
-            waiting: waiting_at_the_token(network),
+            packet_is_long: packet_at_the_token(network),
         }
-    }
-
-    /// What the holder is about to try.
-    fn tried(&self) -> Option<&(Enabled, Option<Layout>)> {
-        self.waiting.iter().find(|(waits, _)| !waits.cancel_asked)
-    }
-
-    /// The packet of it, if it is one.
-    fn packet(&self) -> Option<Layout> {
-        self.tried().and_then(|(_, layout)| *layout)
-    }
-
-    fn packet_is_long(&self) -> Option<bool> {
-        self.packet().map(Layout::long)
-    }
-
-    /// Whether it is one that the row cannot store.
-    fn too_long_for(&self, row: &Glance) -> bool {
-        self.packet_is_long() == Some(true) && !row.long_packets
     }
 
     fn row(&self, number: &str) -> Option<&Glance> {
@@ -350,15 +323,13 @@ impl View {
     }
 }
 
-fn waiting_at_the_token(network: &Network) -> Vec<(Enabled, Option<Layout>)> {
+fn packet_at_the_token(network: &Network) -> Option<bool> {
     let Phase::Taken { holder } = network.phase else {
-        return Vec::new();
+        return None;
     };
     let row = &network.rows[holder];
-    let waiting = row.transmit.queue.waiting();
-    waiting
-        .map(|waits| (waits, row.layout(waits.page)))
-        .collect()
+    let tried = row.transmit.queue.without_cancelled().oldest()?;
+    Some(row.layout(tried.page)?.long())
 }
 
 /// Sees each call, and keeps what the next one needs of it.
@@ -537,7 +508,7 @@ fn step(before: &View, after: &View) -> Vec<String> {
     let (Phase::Taken { holder }, Phase::Pass { .. }) = (before.phase, after.phase) else {
         return Vec::new();
     };
-    let mut seen: Vec<String> = before.packet_is_long().map(packet).into_iter().collect();
+    let mut seen: Vec<String> = before.packet_is_long.map(packet).into_iter().collect();
     for (index, (was, is)) in before.rows.iter().zip(&after.rows).enumerate() {
         if !was.chaining {
             continue;

@@ -1,7 +1,7 @@
-//! Every value of a byte, where the rules of document 01 and of requests C-11, C-13, C-15 and C-16 say how
-//! many of them are taken, or what is answered to each.
+//! Every value of a byte, where the rules of document 01 and of requests C-11, C-13 and C-16 say how many
+//! of them are taken.
 //!
-//! The network has one row, or for MIXED two. Its byte b is at `ROW + b`, and page 0 of its RAM at `RAM`.
+//! The network has one row. Its byte b is at `ROW + b`, and page 0 of its RAM at `RAM`.
 
 use std::collections::BTreeSet;
 
@@ -262,90 +262,4 @@ pub fn lengths(peer: &mut dyn Peer) -> Result<(), String> {
     } else {
         Err(format!("N is one of {seen:?}"))
     }
-}
-
-/// The answers to a clocked call for each value of a configuration, and how often each has to come.
-type Clocked = (&'static str, &'static [(&'static str, usize)]);
-
-/// A row with ID FF: the answers to its recovery, and beside a row with ID 01 and configuration 38 also
-/// where the times are mixed. On line are 64 configurations, 16 with each of the times.
-pub fn configurations_clocked(peer: &mut dyn Peer) -> Result<(), String> {
-    const RECOVERY: &[(&str, usize)] = &[
-        ("QUIET 0", 192),
-        ("RECOVERED 0 28400", 16),
-        ("RECOVERED 0 30700", 16),
-        ("RECOVERED 0 33780", 16),
-        ("RECOVERED 0 39910", 16),
-    ];
-    // Off line it leaves the other to recover alone: 254 times 1,460 more.
-    const BESIDE_ANOTHER: &[(&str, usize)] = &[
-        ("RECOVERED 1 399240", 192),
-        ("RECOVERED 0 28400", 16),
-        ("REFUSED 20 MIXED", 48),
-    ];
-    const LAP: &[(&str, usize)] = &[
-        ("REFUSED 12 ALONE", 192),
-        ("DONE 258 268568 1 1 3 255 0 255", 16),
-        ("REFUSED 20 MIXED", 48),
-    ];
-    let alone = [set(2, 0xFF)].to_vec();
-    let second = format!("poke {} 01", ROW + 1088 + 2);
-    let on_line = format!("poke {} 38", ROW + 1088 + 6);
-    let beside_another = [set(2, 0xFF), second, on_line].to_vec();
-    let sweeps: [(usize, Vec<String>, Clocked); 3] = [
-        (1, alone, ("clockstep 0", RECOVERY)),
-        (2, beside_another.clone(), ("clockstep 0", BESIDE_ANOTHER)),
-        (2, beside_another, ("clocklap 2", LAP)),
-    ];
-    for (rows, before, (line, expected)) in sweeps {
-        let answers = sweep(peer, |value| {
-            let mut lines = vec![
-                format!("size {}", 16 + 1088 * rows),
-                format!("fresh {rows}"),
-            ];
-            lines.extend(before.clone());
-            lines.extend([set(6, value), line.to_string()]);
-            lines
-        })?;
-        for (answer, expected) in expected {
-            let came = answers.iter().filter(|came| came == answer).count();
-            if came != *expected {
-                return Err(format!(
-                    "`{line}` with {rows} rows gives `{answer}` for {came} configurations and not {expected}"
-                ));
-            }
-        }
-    }
-    Ok(())
-}
-
-/// A broadcast of a row that has been passed the token, for each COUNT of a short packet and of a long one.
-pub fn counts_clocked(peer: &mut dyn Peer) -> Result<(), String> {
-    for long in [0, 1] {
-        let answers = sweep(peer, |count| {
-            let mut lines = card(&[(2, 0x07), (3, 0x90), (6, 0x38), (15, long)]);
-            lines.push("poke 4 0200".to_string());
-            lines.push(match long {
-                0 => format!("poke {} {count:02X}", RAM + 2),
-                _ => format!("poke {} 00{count:02X}", RAM + 2),
-            });
-            lines.push("clockstep 0".to_string());
-            lines
-        })?;
-        let (least, page) = if long == 0 { (3, 256) } else { (4, 512) };
-        for (count, answer) in answers.iter().enumerate() {
-            // COUNT is one character, or two, beside six others and the data.
-            let characters = page - count + 7 + usize::from(long);
-            let expected = match count {
-                _ if count < least => "HELD MALFORMED 0".to_string(),
-                _ => format!("HELD BROADCAST {}", 24 + 44 * characters),
-            };
-            if *answer != expected {
-                return Err(format!(
-                    "COUNT {count} with long packets {long} gives `{answer}` and not `{expected}`"
-                ));
-            }
-        }
-    }
-    Ok(())
 }

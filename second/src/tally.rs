@@ -6,7 +6,7 @@ use crate::comparison::Heard;
 use crate::sights::{self, fetched, naks, named};
 
 /// The words of the prompt that are compared, each with the answers it can give.
-const ANSWERS: [(&str, &[&str]); 17] = [
+const ANSWERS: [(&str, &[&str]); 15] = [
     ("size", &["DONE", "ERROR"]),
     ("poke", &["DONE", "ERROR"]),
     ("peek", &["DONE", "ERROR"]),
@@ -103,27 +103,6 @@ const ANSWERS: [(&str, &[&str]); 17] = [
         ],
     ),
     (
-        "clockstep",
-        &[
-            "QUIET",
-            "RECOVERED",
-            "PASSED",
-            "UNANSWERED",
-            "TOKENLOST",
-            "HELD NOTHING",
-            "HELD MALFORMED",
-            "HELD BROADCAST",
-            "HELD NOANSWER",
-            "HELD NAK",
-            "HELD DELIVERED",
-            "HELD UNACKNOWLEDGED",
-            "REFUSED 1 SHAPE",
-            "REFUSED 4 VALUE",
-            "REFUSED 20 MIXED",
-            "ERROR",
-        ],
-    ),
-    (
         "data",
         &[
             "DONE",
@@ -144,21 +123,9 @@ const ANSWERS: [(&str, &[&str]); 17] = [
             "ERROR",
         ],
     ),
-    (
-        "clocklap",
-        &[
-            "DONE",
-            "REFUSED 1 SHAPE",
-            "REFUSED 7 BUSY",
-            "REFUSED 12 ALONE",
-            "REFUSED 13 ROOM",
-            "REFUSED 20 MIXED",
-            "ERROR",
-        ],
-    ),
 ];
 
-/// The same, of a step, clocked or not, by its fault.
+/// The same, of a step by its fault.
 const FAULT_ANSWERS: [(&str, &[&str]); 5] = [
     (
         "0",
@@ -239,7 +206,7 @@ const WRITE_ANSWERS: [(&str, &[&str]); 9] = [
 ];
 
 /// The same, of a call that was made a second time with rows in another order.
-const SHUFFLED_ANSWERS: [(&str, &[&str]); 29] = [
+const SHUFFLED_ANSWERS: [(&str, &[&str]); 24] = [
     ("read", &["DONE", "REFUSED 2 ROW"]),
     ("read 4, old byte, AUTO-INC 0", &["DONE"]),
     ("read 4, old byte, AUTO-INC 1", &["DONE"]),
@@ -260,12 +227,27 @@ const SHUFFLED_ANSWERS: [(&str, &[&str]); 29] = [
     ("timer", &["DONE", "REFUSED 2 ROW", "REFUSED 5 NOTREADY"]),
     ("interrupt", &["DONE 0", "DONE 1"]),
     ("step", &ANY_FAULT),
-    ("step", &OTHER_STEPS),
-    ("step, row renamed", &ROW_TOLD),
-    ("clockstep", &ANY_FAULT),
-    ("clockstep", &OTHER_STEPS),
-    ("clockstep", &["REFUSED 20 MIXED"]),
-    ("clockstep, row renamed", &ROW_TOLD),
+    (
+        "step",
+        &[
+            "RECOVERED",
+            "PASSED",
+            "UNANSWERED",
+            "TOKENLOST",
+            "HELD DELIVERED",
+            "REFUSED 4 VALUE",
+        ],
+    ),
+    (
+        ROW_RENAMED,
+        &[
+            "RECOVERED",
+            "PASSED",
+            "HELD NAK",
+            "HELD DELIVERED",
+            "HELD UNACKNOWLEDGED",
+        ],
+    ),
     ("step, answered before the holder", &ANSWERED),
     ("step, answered behind the holder", &ANSWERED),
     ("step, answered by a row that is not next", &ANSWERED),
@@ -276,34 +258,6 @@ const SHUFFLED_ANSWERS: [(&str, &[&str]); 29] = [
     ("interrupt, mask bit 3, EXCNAK", &["DONE 1"]),
     ("data", &["DONE", "REFUSED 4 VALUE"]),
     ("lap", &["DONE", "REFUSED 7 BUSY", "REFUSED 13 ROOM"]),
-    (
-        "clocklap",
-        &[
-            "DONE",
-            "REFUSED 7 BUSY",
-            "REFUSED 13 ROOM",
-            "REFUSED 20 MIXED",
-        ],
-    ),
-];
-
-/// Answers to steps that do not come with every fault.
-const OTHER_STEPS: [&str; 6] = [
-    "RECOVERED",
-    "PASSED",
-    "UNANSWERED",
-    "TOKENLOST",
-    "HELD DELIVERED",
-    "REFUSED 4 VALUE",
-];
-
-/// Those that tell a row, which may have another number in the other order.
-const ROW_TOLD: [&str; 5] = [
-    "RECOVERED",
-    "PASSED",
-    "HELD NAK",
-    "HELD DELIVERED",
-    "HELD UNACKNOWLEDGED",
 ];
 
 /// Outcomes with the row that answered an enquiry.
@@ -319,6 +273,9 @@ pub const COMMANDS: [u8; 22] = [
 pub const CLEARS: [u8; 2] = [0x00, 0x08];
 
 const SHUFFLED: &str = "in another order, ";
+
+/// A step that tells a row which has another number in the other order.
+const ROW_RENAMED: &str = "step, row renamed";
 
 /// Counts by what was asked and what was answered.
 #[derive(Default)]
@@ -345,9 +302,7 @@ impl Tally {
         let mut note = |asked: String| count(&mut self.closer, asked, kind.to_string());
         sights.iter().cloned().for_each(&mut note);
         match words {
-            [word @ ("step" | "clockstep"), fault] => {
-                note(format!("{word}, fault {}", capped(fault, 3)));
-            }
+            ["step", fault] => note(format!("step, fault {}", capped(fault, 3))),
             ["read", _, register] => note(format!("read, register {}", capped(register, 7))),
             ["write", _, register, value] => {
                 note(format!("write, register {}", capped(register, 7)));
@@ -374,9 +329,8 @@ impl Tally {
         let word = heard.line.split(' ').next().unwrap_or_default();
         let sights = heard.sights.iter().map(String::as_str);
         let sights = sights.filter(|sight| COUNTED.iter().any(|kind| sight.starts_with(kind)));
-        let renamed = word.ends_with("step") && first.answer != heard.answer;
-        let renamed = renamed.then(|| format!("{word}, row renamed"));
-        for asked in sights.chain([word]).chain(renamed.as_deref()) {
+        let renamed = word == "step" && first.answer != heard.answer;
+        for asked in sights.chain([word]).chain(renamed.then_some(ROW_RENAMED)) {
             let asked = format!("{SHUFFLED}{asked}");
             count(&mut self.shuffled, asked, kind(word, &heard.answer));
         }
@@ -477,15 +431,9 @@ fn can_come() -> Vec<(String, String)> {
 }
 
 fn can_come_closer() -> Vec<(String, String)> {
-    let mut all = Vec::new();
-    for step in ["step, fault ", "clockstep, fault "] {
-        all.extend(keys(step, &FAULT_ANSWERS));
-        for fault in ["0", "1", "2", "3"] {
-            all.extend(keys(step, &[(fault, &ANY_FAULT)]));
-        }
-    }
+    let mut all = keys("step, fault ", &FAULT_ANSWERS);
     for fault in ["0", "1", "2", "3"] {
-        all.extend(keys("clockstep, fault ", &[(fault, &["REFUSED 20 MIXED"])]));
+        all.extend(keys("step, fault ", &[(fault, &ANY_FAULT)]));
     }
     all.extend(keys("read, register ", &READ_ANSWERS));
     all.extend(keys("write, register ", &WRITE_ANSWERS));

@@ -1,13 +1,11 @@
 //! Values worked out by hand from document 01, from request C-11 in `tests/chaining.rs`, from C-12 in
-//! `tests/orders.rs`, from C-13 in `tests/fetched.rs`, from C-15 in `tests/clock.rs` and `tests/plan.rs`, from
-//! C-16 in `tests/naks.rs` and from C-24 in `tests/shuffled.rs`.
+//! `tests/orders.rs`, from C-13 in `tests/fetched.rs`, from C-16 in `tests/naks.rs` and from C-24 in
+//! `tests/shuffled.rs`.
 
 mod chaining;
-mod clock;
 mod fetched;
 mod naks;
 mod orders;
-mod plan;
 mod shuffled;
 
 use crate::model::{Network, Row, PAGE, RAM};
@@ -581,10 +579,8 @@ fn well_formed_or_not() {
             "timer 0",
             "interrupt 0",
             "step 0",
-            "clockstep 0",
             "data 0 0",
             "lap 3",
-            "clocklap 3",
         ] {
             desk.gives(line, "REFUSED 1 SHAPE");
         }

@@ -101,29 +101,19 @@ impl Player<'_> {
         Ok(sender.zip(target))
     }
 
-    pub(super) fn id_of(&mut self, row: usize) -> u8 {
+    fn id_of(&mut self, row: usize) -> u8 {
         self.row(row).map_or(0, |row| row.node_id)
     }
 
     /// A packet for the target waits: the oldest, where there is one, has its DID now.
     fn aim(&mut self, row: usize, target: usize) -> Played {
         let did = self.id_of(target);
-        self.as_oldest(row, |player, page| player.packet_for(row, page, did))
-    }
-
-    /// A packet is written to the page that the row's oldest transmit goes from, which is enabled where
-    /// none waits.
-    pub(super) fn as_oldest(
-        &mut self,
-        row: usize,
-        packet: impl FnOnce(&mut Self, u8) -> Played,
-    ) -> Played {
         let oldest = self.row(row).and_then(|row| row.transmit.queue.oldest());
         let page = match oldest {
             Some(oldest) => oldest.page,
             None => self.even_or_short_page(row),
         };
-        packet(self, page)?;
+        self.packet_for(row, page, did)?;
         if oldest.is_some() {
             return Ok(());
         }
@@ -183,7 +173,7 @@ impl Player<'_> {
     }
 
     /// The row has been passed the token.
-    pub(super) fn token_to(&mut self, row: usize) -> Played {
+    fn token_to(&mut self, row: usize) -> Played {
         self.poke(4, &[2, row as u8])
     }
 
@@ -555,6 +545,6 @@ impl Player<'_> {
     }
 }
 
-pub(super) fn page_start(row: usize, page: u8) -> usize {
+fn page_start(row: usize, page: u8) -> usize {
     Network::length_for(row) + REGISTERS + PAGE * usize::from(page)
 }

@@ -72,7 +72,7 @@ impl Player<'_> {
     /// row.
     fn call_of_any_row(&mut self) -> Played {
         let any = self.some_row();
-        let weights = [12, 8, 2, 2, 2, 4, 4, 2, 2, 2, 2, 2, 2, 2, 4, 3];
+        let weights = [12, 8, 2, 2, 2, 4, 4, 2, 2, 2, 2, 2, 2, 2, 4];
         match self.rng.weighted(&weights) {
             0 => self.any_call(),
             1 => {
@@ -94,8 +94,7 @@ impl Player<'_> {
             11 => self.packet_over_fetched_bytes(),
             12 => self.old_byte(any),
             13 => self.lap_anew(),
-            14 => self.packet_with_naks(),
-            _ => self.clocked_in_rows(),
+            _ => self.packet_with_naks(),
         }
     }
 }

@@ -325,7 +325,7 @@ fn sets_reset(value: &str) -> bool {
 }
 
 fn packet(before: &View) -> &'static str {
-    match before.packet_is_long() {
+    match before.packet_is_long {
         Some(true) => LONG_PACKET,
         _ => SHORT_PACKET,
     }

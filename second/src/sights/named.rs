@@ -62,6 +62,7 @@ fn seen(before: &View, holder: usize, row: usize, target: &Glance) -> Vec<String
     let sender = &before.rows[holder];
     let earlier = &before.rows[..row];
     let twin = |other: &Glance| other.node_id == target.node_id;
+    let too_long = before.packet_is_long == Some(true) && !target.long_packets;
     let all = [
         (BEFORE, row < holder),
         (BEHIND, row > holder),
@@ -72,7 +73,7 @@ fn seen(before: &View, holder: usize, row: usize, target: &Glance) -> Vec<String
         (BY_CHAINING, target.chaining),
         (FOR_CHAINING, sender.chaining),
         (BY_COUNTING, target.transmit.naks() > 0),
-        (LONG_TO_SHORT, before.too_long_for(target)),
+        (LONG_TO_SHORT, too_long),
     ];
     let seen = all.into_iter().filter(|(_, holds)| *holds);
     seen.map(|(which, _)| answered(which)).collect()
