@@ -31,6 +31,7 @@ pub struct Packet {
 }
 
 // The shape by the byte at offset 2, the byte after it, and whether the page may be long.
+#[tactic(auto, unfolding(crate::specs::Packets::shape_of))]
 fn shape_of(count: u8, next: u8, long: bool) -> Shape
     ensures { result ≡ shape_of count next long }
 {
@@ -98,6 +99,7 @@ impl Shape {
     }
 
     // Whether a packet of this shape can be stored by a card with the registers g at all.
+    #[tactic(auto, unfolding(crate::specs::Packets::storable))]
     pub fn storable(self, g: Regs) -> bool
         ensures { result ≡ storable g self }
     {
@@ -110,6 +112,7 @@ impl Shape {
 }
 
 // A page by its number: the one place that knows how long pages are, and which may be long.
+#[tactic(auto, using(crate::proofs::Rows::Sizes::whole_registers))]
 fn page_of(row: &[u8], page: usize) -> Page
     requires whole { Whole row.now }
     requires page_bound { page < 4 }
@@ -122,6 +125,7 @@ fn page_of(row: &[u8], page: usize) -> Page
     }
 }
 
+#[tactic(auto, unfolding(crate::specs::Packets::page_shape))]
 pub fn page_shape(row: &[u8], page: usize) -> Shape
     requires whole { Whole row.now }
     requires page_bound { page < 4 }
@@ -132,6 +136,7 @@ pub fn page_shape(row: &[u8], page: usize) -> Shape
 }
 
 // The DID byte of a page.
+#[tactic(auto, unfolding(crate::specs::Packets::destination))]
 pub fn destination(row: &[u8], page: usize) -> u8
     requires whole { Whole row.now }
     requires page_bound { page < 4 }
@@ -156,6 +161,7 @@ pub fn page_data(row: &[u8], page: usize) -> &[u8]
 }
 
 // The number that belongs to the reader's answer.
+#[tactic(auto, using(told::proofs::Told::Smallest::refuse_held), unfolding(crate::specs::Packets::data_refusals))]
 pub fn data_number(row: &[u8], page: usize) -> u8
     requires { Whole row.now }
     ensures { result ≡ data_number row.now page }
@@ -204,6 +210,7 @@ pub fn store_packet(row: &mut [u8], page: usize, packet: Packet)
 }
 
 // The row's own ID is written at byte 0 of a page that is to be sent.
+#[tactic(auto, using(crate::proofs::Rows::Sizes::whole_registers), unfolding(crate::specs::Packets::stamped))]
 pub fn stamp(row: &mut [u8], page: usize)
     requires whole { Whole row.old }
     requires page_bound { page < 4 }

@@ -14,12 +14,14 @@ pub const ROW_BYTES: usize = 1088;
 const MARK: [u8; 2] = *b"\x4e\x44";
 
 // The length of the row that these bytes begin with, which its mark says: there is one kind of row.
+#[tactic(auto, unfolding(crate::specs::Row::row_size))]
 pub fn size(row: &[u8]) -> usize
     ensures { result ≡ row_size row.now }
 {
     ROW_BYTES
 }
 
+#[tactic(auto, unfolding(crate::specs::Row::regs_of))]
 pub fn load(row: &[u8]) -> Regs
     requires { register_bytes ≤ length row.now }
     ensures { result ≡ regs_of row.now }
@@ -59,6 +61,7 @@ pub fn load(row: &[u8]) -> Regs
 }
 
 // The registers are written to bytes 2 to 19 and 32 to 34; no other byte changes.
+#[tactic(auto, unfolding(crate::specs::Row::put_regs))]
 pub fn store(row: &mut [u8], g: Regs)
     requires { register_bytes ≤ length row.old }
     ensures { row.new ≡ put_regs row.old g }
@@ -87,6 +90,7 @@ pub fn store(row: &mut [u8], g: Regs)
 }
 
 // Each byte is zero.
+#[tactic(auto, using(crate::proofs::Words::Zeros::zeros_here, crate::proofs::Words::Zeros::zeros_not, crate::proofs::Words::Zeros::zeros_end))]
 pub fn all_zero(s: &[u8]) -> bool
     ensures { result ≡ zeros s.now }
 {
@@ -112,6 +116,7 @@ pub fn fill_zero(s: &mut [u8])
 }
 
 // The row's own well-formedness: its mark, its registers, and zeros in the other bytes up to 63.
+#[tactic(auto, unfolding(crate::specs::Row::well_formed, crate::specs::Row::marked, crate::specs::Row::spare))]
 pub fn well_formed(row: &[u8]) -> bool
     requires { register_bytes ≤ length row.now }
     ensures { result ≡ well_formed row.now }
@@ -140,6 +145,7 @@ pub fn hardware_reset(row: &mut [u8])
 }
 
 // The registers that an access leaves are written. C-13: where it fetches, byte 32 becomes the RAM byte at their pointer.
+#[tactic(auto, using(crate::proofs::Rows::Sizes::whole_registers, crate::proofs::Rows::Sizes::whole_long))]
 fn put_accessed(row: &mut [u8], fetches: bool, g: Regs)
     requires { Whole row.old }
     ensures { row.new ≡ accessed row.old fetches g }
@@ -149,6 +155,7 @@ fn put_accessed(row: &mut [u8], fetches: bool, g: Regs)
 }
 
 // A register of the card is read; `Regs::read_number` says whether it can be.
+#[tactic(auto, using(crate::proofs::Rows::Sizes::whole_registers), unfolding(crate::specs::Access::value_read, crate::specs::Access::row_after_read))]
 pub fn read(row: &mut [u8], register: usize) -> u8
     requires { Whole row.old }
     ensures value { result ≡ value_read row.old register }
@@ -170,6 +177,7 @@ fn write_ram(row: &mut [u8], register: usize, at: usize, value: u8)
 }
 
 // A register of the card is written; `Regs::write_number` says whether it can be.
+#[tactic(auto, using(crate::proofs::Rows::Sizes::whole_registers, crate::proofs::Rows::Sizes::whole_long), unfolding(crate::specs::Access::row_after_write))]
 pub fn write(row: &mut [u8], register: usize, value: u8)
     requires { Whole row.old }
     ensures { row.new ≡ row_after_write row.old register value }

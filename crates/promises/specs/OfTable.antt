@@ -1,32 +1,33 @@
 -- "No second outcome fits", over the contracts of `table`.
 -- Assumes nothing.
+use Rattle.table.specs.contracts as contracts
 use Rattle.table.proofs.network as network
 use Rattle.table.proofs.calls as calls
 use Rattle.promises.specs.Once.{FixedBy, Fixed, OnceBy, Once, SamePart}
 
 pub record OfTable : Type 0 where
-  pub shape : Once network.shape.ended network.shape.Reads.Asked network.shape.Reads.Learnt
-  pub wide : Once network.wide.ended network.wide.Reads.Asked network.wide.Reads.Learnt
-  pub rows : Fixed network.rows.ended network.rows.Reads.Learnt
-  pub phase : Fixed network.phase.ended network.phase.Reads.Learnt
-  pub holder : Fixed network.holder.ended network.holder.Reads.Learnt
-  pub row_start : Fixed network.row_start.ended network.row_start.Reads.Learnt
-  pub row_end : Fixed network.row_end.ended network.row_end.Reads.Learnt
-  pub row_from : FixedBy network.row_from.ended (λ κs. SamePart) network.row_from.Reads.Learnt
-  pub row_at : FixedBy network.row_at.ended (λ κs. SamePart) network.row_at.Reads.Learnt
-  pub regs_at : Fixed network.regs_at.ended network.regs_at.Reads.Learnt
-  pub put_regs : Fixed network.put_regs.ended network.put_regs.Reads.Learnt
-  pub turn : Fixed network.turn.ended network.turn.Reads.Learnt
-  pub node_of : Fixed network.node_of.ended network.node_of.Reads.Learnt
-  pub top_id : Fixed network.top_id.ended network.top_id.Reads.Learnt
-  pub exact_length : Fixed calls.exact_length.ended calls.exact_length.Reads.Learnt
-  pub fresh : Once calls.fresh.ended calls.fresh.Reads.Asked calls.fresh.Reads.Learnt
-  pub place_number : Once calls.place_number.ended calls.place_number.Reads.Asked calls.place_number.Reads.Learnt
-  pub read : Once calls.read.ended calls.read.Reads.Asked calls.read.Reads.Learnt
-  pub write_on : Fixed calls.write_on.ended calls.write_on.Reads.Learnt
-  pub write : Once calls.write.ended calls.write.Reads.Asked calls.write.Reads.Learnt
-  pub reset : Once calls.reset.ended calls.reset.Reads.Asked calls.reset.Reads.Learnt
-  pub timer : Once calls.timer.ended calls.timer.Reads.Asked calls.timer.Reads.Learnt
-  pub interrupt : Once calls.interrupt.ended calls.interrupt.Reads.Asked calls.interrupt.Reads.Learnt
-  pub page_data : OnceBy calls.page_data.ended (λ κs. SamePart) calls.page_data.Reads.Asked calls.page_data.Reads.Learnt
-  pub data_number : Once calls.data_number.ended calls.data_number.Reads.Asked calls.data_number.Reads.Learnt
+  pub shape : Once contracts.network.shape.ended network.shape.Reads.Asked network.shape.Reads.Learnt
+  pub wide : Once contracts.network.wide.ended network.wide.Reads.Asked network.wide.Reads.Learnt
+  pub rows : Fixed contracts.network.rows.ended network.rows.Reads.Learnt
+  pub phase : Fixed contracts.network.phase.ended network.phase.Reads.Learnt
+  pub holder : Fixed contracts.network.holder.ended network.holder.Reads.Learnt
+  pub row_start : Fixed contracts.network.row_start.ended network.row_start.Reads.Learnt
+  pub row_end : Fixed contracts.network.row_end.ended network.row_end.Reads.Learnt
+  pub row_from : FixedBy contracts.network.row_from.ended (λ κs. SamePart) network.row_from.Reads.Learnt
+  pub row_at : FixedBy contracts.network.row_at.ended (λ κs. SamePart) network.row_at.Reads.Learnt
+  pub regs_at : Fixed contracts.network.regs_at.ended network.regs_at.Reads.Learnt
+  pub put_regs : Fixed contracts.network.put_regs.ended network.put_regs.Reads.Learnt
+  pub turn : Fixed contracts.network.turn.ended network.turn.Reads.Learnt
+  pub node_of : Fixed contracts.network.node_of.ended network.node_of.Reads.Learnt
+  pub top_id : Fixed contracts.network.top_id.ended network.top_id.Reads.Learnt
+  pub exact_length : Fixed contracts.calls.exact_length.ended calls.exact_length.Reads.Learnt
+  pub fresh : Once contracts.calls.fresh.ended calls.fresh.Reads.Asked calls.fresh.Reads.Learnt
+  pub place_number : Once contracts.calls.place_number.ended calls.place_number.Reads.Asked calls.place_number.Reads.Learnt
+  pub read : Once contracts.calls.read.ended calls.read.Reads.Asked calls.read.Reads.Learnt
+  pub write_on : Fixed contracts.calls.write_on.ended calls.write_on.Reads.Learnt
+  pub write : Once contracts.calls.write.ended calls.write.Reads.Asked calls.write.Reads.Learnt
+  pub reset : Once contracts.calls.reset.ended calls.reset.Reads.Asked calls.reset.Reads.Learnt
+  pub timer : Once contracts.calls.timer.ended calls.timer.Reads.Asked calls.timer.Reads.Learnt
+  pub interrupt : Once contracts.calls.interrupt.ended calls.interrupt.Reads.Asked calls.interrupt.Reads.Learnt
+  pub page_data : OnceBy contracts.calls.page_data.ended (λ κs. SamePart) calls.page_data.Reads.Asked calls.page_data.Reads.Learnt
+  pub data_number : Once contracts.calls.data_number.ended calls.data_number.Reads.Asked calls.data_number.Reads.Learnt

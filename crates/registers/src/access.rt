@@ -20,6 +20,7 @@ impl Regs {
     }
 
     // The pointer after an access of register 4.
+    #[tactic(auto, unfolding(crate::specs::Registers::stepped))]
     fn stepped(self) -> Regs
         ensures { result ≡ stepped self }
     {
@@ -75,6 +76,7 @@ impl Regs {
     }
 
     // The status as register 0 shows it.
+    #[tactic(auto, unfolding(crate::specs::Registers::shown))]
     fn shown(self) -> u8
         ensures { result ≡ shown self }
     {
@@ -87,6 +89,7 @@ impl Regs {
     }
 
     // What a read of a register gives.
+    #[tactic(auto, unfolding(crate::specs::Registers::read_value))]
     pub fn read_value(self, register: usize) -> u8
         ensures { result ≡ read_value self register }
     {
@@ -102,6 +105,7 @@ impl Regs {
         }
     }
 
+    #[tactic(auto, unfolding(crate::specs::Registers::after_read))]
     pub fn after_read(self, register: usize) -> Regs
         ensures { result ≡ after_read self register }
     {
@@ -136,6 +140,7 @@ impl Regs {
     }
 
     // The configuration is written; RESET = 1 is a software reset.
+    #[tactic(auto, unfolding(crate::specs::Registers::configured))]
     fn configured(self, value: u8) -> Regs
         ensures { result ≡ configured self value }
     {
@@ -158,6 +163,7 @@ impl Regs {
     }
 
     // A command's effect.
+    #[tactic(auto, unfolding(crate::specs::Registers::commanded))]
     fn commanded(self, command: Command) -> Regs
         ensures { result ≡ commanded self command }
     {
@@ -179,12 +185,14 @@ impl Regs {
     }
 
     // The register is the node ID.
+    #[tactic(auto, unfolding(crate::specs::Registers::writes_id))]
     pub(crate) fn writes_id(self, register: usize) -> bool
         ensures { result ≡ writes_id self register }
     {
         (register == 7) & (self.sub_address() == 1)
     }
 
+    #[tactic(auto, unfolding(crate::specs::Registers::seventh_written))]
     fn seventh_written(self, value: u8) -> Regs
         ensures { result ≡ seventh_written self value }
     {
@@ -203,6 +211,7 @@ impl Regs {
     }
 
     // The registers after a write that is not refused.
+    #[tactic(auto, unfolding(crate::specs::Registers::after_write))]
     pub fn after_write(self, register: usize, value: u8) -> Regs
         ensures { result ≡ after_write self register value }
     {

@@ -9,6 +9,7 @@ use bits::way::Way;
 
 impl Regs {
     // A reconfiguration burst of this card's own.
+    #[tactic(auto, unfolding(crate::specs::Events::burst))]
     pub fn burst(mut self) -> Regs
         ensures { result ≡ burst self }
     {
@@ -17,6 +18,7 @@ impl Regs {
     }
 
     // The line recovers.
+    #[tactic(auto, unfolding(crate::specs::Events::recovered))]
     pub fn recovered(self) -> Regs
         ensures { result ≡ recovered self }
     {
@@ -29,6 +31,7 @@ impl Regs {
     }
 
     // Another card's message is heard: an invitation (`token`), or another one.
+    #[tactic(auto, unfolding(crate::specs::Events::heard))]
     pub fn heard(self, token: bool) -> Regs
         ensures { result ≡ heard self token }
     {
@@ -40,6 +43,7 @@ impl Regs {
     }
 
     // An invitation to `number` is answered; `taker`: by this card.
+    #[tactic(auto, unfolding(crate::specs::Events::answered))]
     pub fn answered(self, number: u8, taker: bool) -> Regs
         ensures { result ≡ answered self number taker }
     {
@@ -59,6 +63,7 @@ impl Regs {
     }
 
     // Nobody took the invitation: the next one goes to the next ID.
+    #[tactic(auto, unfolding(crate::specs::Events::risen_nid))]
     pub fn risen_nid(self) -> Regs
         ensures { result ≡ risen_nid self }
     {
@@ -69,6 +74,7 @@ impl Regs {
     }
 
     // The cancels that were asked take effect.
+    #[tactic(auto, unfolding(crate::specs::Events::cancelled))]
     pub fn cancelled(self) -> Regs
         ensures { result ≡ cancelled self }
     {
@@ -78,6 +84,7 @@ impl Regs {
     }
 
     // The transmit ends, acknowledged or not.
+    #[tactic(auto, unfolding(crate::specs::Events::sent))]
     pub fn sent(self, acknowledged: bool) -> Regs
         ensures { result ≡ sent self acknowledged }
     {
@@ -85,6 +92,7 @@ impl Regs {
     }
 
     // An enquiry of this card's own that no packet followed: NAK answered it, or nobody did.
+    #[tactic(auto, unfolding(crate::specs::Events::enquired))]
     pub fn enquired(self, nak: bool) -> Regs
         ensures { result ≡ enquired self nak }
     {
@@ -95,36 +103,42 @@ impl Regs {
     }
 
     // The receive ends.
+    #[tactic(auto, unfolding(crate::specs::Events::received))]
     pub fn received(self) -> Regs
         ensures { result ≡ received self }
     {
         self.ended(Way::Receive, false)
     }
 
+    #[tactic(auto, unfolding(crate::specs::Events::transmitting))]
     pub fn transmitting(self) -> bool
         ensures { result ≡ transmitting self }
     {
         self.status & TA == 0
     }
 
+    #[tactic(auto, unfolding(crate::specs::Events::receiving))]
     pub fn receiving(self) -> bool
         ensures { result ≡ receiving self }
     {
         self.status & RI == 0
     }
 
+    #[tactic(auto, unfolding(crate::specs::Events::takes_broadcasts))]
     pub fn takes_broadcasts(self) -> bool
         ensures { result ≡ takes_broadcasts self }
     {
         self.awake() & self.receiving() & (self.receive.oldest & BROADCASTS != 0)
     }
 
+    #[tactic(auto, unfolding(crate::specs::Events::transmit_page))]
     pub fn transmit_page(self) -> usize
         ensures { result ≡ transmit_page self }
     {
         (self.transmit.oldest % 4) as usize
     }
 
+    #[tactic(auto, unfolding(crate::specs::Events::receive_page))]
     pub fn receive_page(self) -> usize
         ensures { result ≡ receive_page self }
     {

@@ -10,6 +10,7 @@ use told::numbers::{BUSY, DIRECTION, DONE, NOTREADY, ONLINE, PAGE, REGISTER, VAL
 
 impl Regs {
     // REGISTER: no such register, or none at this sub-address.
+    #[tactic(auto, unfolding(crate::specs::Refusals::no_register))]
     pub fn no_register(self, register: usize) -> bool
         ensures { result ≡ no_register self register }
     {
@@ -17,6 +18,7 @@ impl Regs {
     }
 
     // VALUE: a bit that the register has no name for, or a byte that is no command.
+    #[tactic(auto, unfolding(crate::specs::Refusals::bad_value))]
     fn bad_value(self, register: usize, value: u8) -> bool
         ensures { result ≡ bad_value self register value }
     {
@@ -27,6 +29,7 @@ impl Regs {
     }
 
     // BUSY: what the command would start or change is enabled already.
+    #[tactic(auto, unfolding(crate::specs::Events::transmitting, crate::specs::Events::receiving))]
     fn busy(self, command: Command) -> bool
         ensures { result ≡ busy self command }
     {
@@ -41,6 +44,7 @@ impl Regs {
     }
 
     // BUSY: CCHEN changes while something waits.
+    #[tactic(auto, unfolding(crate::specs::Events::transmitting, crate::specs::Events::receiving))]
     fn chain_busy(self, value: u8) -> bool
         ensures { result ≡ chain_busy self value }
     {
@@ -62,6 +66,7 @@ impl Regs {
     }
 
     // What a read of a register is refused with.
+    #[tactic(auto, unfolding(crate::specs::Refusals::read_refusals))]
     pub fn read_number(self, register: usize) -> u8
         ensures { result ≡ told (read_refusals self register) }
     {
@@ -70,6 +75,7 @@ impl Regs {
     }
 
     // What a write of a register is refused with.
+    #[tactic(auto, unfolding(crate::specs::Refusals::write_refusals))]
     pub fn write_number(self, register: usize, value: u8) -> u8
         ensures { result ≡ told (write_refusals self register value) }
     {

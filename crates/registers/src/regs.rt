@@ -44,6 +44,7 @@ pub struct Regs {
 
 impl Regs {
     // The ID is not 0 and RESET is clear.
+    #[tactic(auto, unfolding(crate::specs::Fit::awake))]
     pub(crate) fn awake(self) -> bool
         ensures { result ≡ awake self }
     {
@@ -51,6 +52,7 @@ impl Regs {
     }
 
     // Awake, and TXEN is set.
+    #[tactic(auto, unfolding(crate::specs::Fit::on_line))]
     pub fn on_line(self) -> bool
         ensures { result ≡ on_line self }
     {
@@ -58,6 +60,7 @@ impl Regs {
     }
 
     // No unnamed bit is set, and the bytes agree with each other.
+    #[tactic(auto, unfolding(crate::specs::Fit::fit))]
     pub fn fit(self) -> bool
         ensures { result ≡ fit self }
     {
@@ -79,6 +82,7 @@ impl Regs {
                 .fit(Way::Receive, chaining, self.long)
     }
 
+    #[tactic(auto, unfolding(crate::specs::Registers::hardware_reset))]
     pub fn hardware_reset() -> Regs
         ensures { result ≡ hardware_reset }
     {
@@ -106,6 +110,7 @@ impl Regs {
         }
     }
 
+    #[tactic(auto, unfolding(crate::specs::Registers::interrupt))]
     pub fn interrupt(self) -> bool
         ensures { result ≡ interrupt self }
     {

@@ -19,6 +19,7 @@ fn nibble(b: u8) -> u8
 }
 
 // The byte that two digits spell.
+#[tactic(auto, unfolding(crate::specs::Hex::pair))]
 fn pair(high: u8, low: u8) -> u8
     ensures { result ≡ pair high low }
 {
@@ -26,6 +27,7 @@ fn pair(high: u8, low: u8) -> u8
 }
 
 // Hex digits only, and an even number of them.
+#[tactic(auto, using(crate::proofs::Pairs::fits_end, crate::proofs::Pairs::fits_odd, crate::proofs::Pairs::fits_not, crate::proofs::Pairs::fits_more))]
 pub fn hex_fits(word: &[u8]) -> bool
     ensures { result ≡ hex_fits word.now }
 {
@@ -43,6 +45,7 @@ pub fn hex_fits(word: &[u8]) -> bool
 }
 
 // The bytes that the pairs spell are stored.
+#[tactic(auto, using(crate::proofs::Pairs::spelt_all))]
 pub fn unhex(word: &[u8], out: &mut [u8])
     requires { length out.old ≡ length word.now / 2 }
     ensures { out.new ≡ unhex word.now }

@@ -8,6 +8,7 @@ const SPACE: u8 = b' ';
 const NEWLINE: u8 = b'\n';
 
 // The end of the part that starts at `from`: the next `stop`, or the text's end.
+#[tactic(auto, using(crate::proofs::Lines::first_end, crate::proofs::Lines::first_stop, crate::proofs::Lines::first_more))]
 fn part_end(text: &[u8], stop: u8, from: usize) -> usize
     requires { from ≤ length text.now }
     ensures value { result ≡ from + length (up_to stop (drop from text.now)) }
@@ -24,6 +25,7 @@ fn part_end(text: &[u8], stop: u8, from: usize) -> usize
 }
 
 // Part k of the text, from 0, of those that `stop` separates; nothing where there is no such part.
+#[tactic(auto, using(crate::proofs::Lines::part_past, crate::proofs::Lines::part_missing, crate::proofs::Lines::from_past), unfolding(places::specs::Places::onward))]
 pub fn part(text: &[u8], stop: u8, k: usize) -> &[u8]
     ensures bytes { result.now ≡ part stop text.now k }
     ensures place { part_from stop text.now k ≤ length text.now → result.ref_ptr ≡ onward text.entry.ref_ptr (part_from stop text.now k) }
@@ -50,6 +52,7 @@ pub fn word(line: &[u8], k: usize) -> &[u8]
 }
 
 // How many words: one more than the spaces.
+#[tactic(auto, using(crate::proofs::Lines::count_end, crate::proofs::Lines::count_space, crate::proofs::Lines::count_more))]
 pub fn count(line: &[u8]) -> usize
     ensures { result ≡ count line.now }
 {
@@ -65,6 +68,7 @@ pub fn count(line: &[u8]) -> usize
 }
 
 // No word is empty: single spaces, and none at either end.
+#[tactic(auto, using(crate::proofs::Lines::spaced_end, crate::proofs::Lines::spaced_not, crate::proofs::Lines::spaced_more))]
 pub fn spaced(line: &[u8]) -> bool
     ensures { result ≡ spaced true line.now }
 {
@@ -82,6 +86,7 @@ pub fn spaced(line: &[u8]) -> bool
 }
 
 // The two have the same bytes.
+#[tactic(auto, using(crate::proofs::Lines::same_lengths, crate::proofs::Lines::same_end, crate::proofs::Lines::same_not, crate::proofs::Lines::same_more))]
 fn same(word: &[u8], name: &[u8]) -> bool
     ensures { result ≡ same word.now name.now }
 {
@@ -99,6 +104,7 @@ fn same(word: &[u8], name: &[u8]) -> bool
 }
 
 // The first line of the table that has the name as its first word; nothing where none has.
+#[tactic(auto, using(crate::proofs::Tables::row_found, crate::proofs::Tables::row_more, crate::proofs::Tables::row_missing, crate::proofs::Tables::from_found, crate::proofs::Tables::from_more, crate::proofs::Tables::from_none), unfolding(places::specs::Places::onward, crate::specs::Words::row, crate::specs::Words::row_from, crate::specs::Words::row_of))]
 pub fn row<'a>(table: &'a [u8], name: &'a [u8]) -> &'a [u8]
     ensures bytes { result.now ≡ row table.now name.now }
     ensures place { row_from table.now name.now ≤ length table.now → result.ref_ptr ≡ onward table.entry.ref_ptr (row_from table.now name.now) }

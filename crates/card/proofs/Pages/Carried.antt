@@ -1,36 +1,25 @@
 -- What the code of `packets` cuts out of a row and lays in is what the definitions say.
 -- Assumes nothing.
-use mathlib.Core.Path.{◌≡◌, refl, ◌∙◌}
+use mathlib.Core.Path.{◌≡◌, ◌∙◌}
 use mathlib.Core.List.{List, ◌++◌}
-use Prim.Native.Nat.{ℕ, ◌+◌, ◌-◌, ◌≤◌, ◌<◌}
+use Prim.Native.Nat.{ℕ, ◌+◌, ◌-◌}
 use native.Mathlib.Nat.{add-zero}
 use native.Mathlib.Omega.{arith}
-use lib.ListN.{length, take, drop, replicate, length-take}
-use borrow.Rule.Slice.PartMut.{mid_of, put_mid}
+use lib.ListN.{drop, replicate}
+use borrow.Rule.Slice.PartMut.{mid_of}
 use Rattle.card.specs.declared.packets.Shape.{Shape}
 use Rattle.card.specs.declared.packets.Packet.{Packet}
-use Rattle.card.specs.Row.{Whole}
 use Rattle.card.specs.Packets.{data_bytes, data_at, head_bytes, page_bytes, page_at, page_shape, packet_at, laid, stored}
-use Rattle.card.proofs.Words.Laid.{part_length, length_part, zeros_left, copy, copied, lay}
-use Rattle.card.proofs.Pages.Sizes.{page_fits}
+use Rattle.card.proofs.Words.Laid.{part_length, zeros_left}
 
 -- what the code of `packet_at` makes is the packet: z are its zeros, and y is what the copy left of the first n of them
-module _ (r : List ℕ) (p : ℕ) (h : p < 4) (l : Whole r) (s : Shape) (e : s ≡ page_shape r p) where
-  pub read_out : (a n : ℕ) (z y : List ℕ) → a ≡ page_at r p → n ≡ page_bytes s → z ≡ replicate 512 0
-      → y ≡ copy (mid_of a (a + n - a) r) (take (n - 0) z)
+module _ (r : List ℕ) (p : ℕ) (s : Shape) (e : s ≡ page_shape r p) where
+  pub read_out : (a n : ℕ) (z y : List ℕ) → a ≡ page_at r p → n ≡ page_bytes s → z ≡ replicate 512 0 → y ≡ mid_of a (a + n - a) r
       → ◌≡◌ {A = Packet} (record { shape = s; bytes = y ++ drop (n - 0) z }) (packet_at r p)
   unfolding packet_at
   read_out a n z y ea en ez ey =
-      let k : length (mid_of a n r) ≡ n = length_part a n r (omega (arith, page_fits r p l h s e)) in
-      let f : y ≡ mid_of a n r =
-      rw part_length at ey ∙ copied (mid_of a n r) (take (n - 0) z) (omega (arith, length-take (n - 0) z)) in
+      let f : y ≡ mid_of a n r = rw part_length at ey in
       rw (← e, ← ea, ← en, f, zeros_left n 512 z ez)
-
--- what the code of `lay` makes: y is what it copied
-pub lays : (r b : List ℕ) (a d e : ℕ) → d ≤ e → e ≤ length b → (y : List ℕ) → y ≡ copy (mid_of d (e - d) b) (mid_of (a + d) (a + e - (a + d)) r)
-    → put_mid (a + d) (a + e - (a + d)) r y ≡ laid (a + d) (mid_of d (e - d) b) r
-lays r b a d e l m y ey =
-    lay (a + d) (a + e - (a + d)) (mid_of d (e - d) b) r y (mid_of d (e - d) b) refl (rw (length_part d (e - d) b (omega arith)) (omega arith)) ey
 
 -- what the code of `store_packet` makes: x has the head, and y the data too
 pub stores : (r : List ℕ) (a : ℕ) (k : Packet) (h d n : ℕ) → h ≡ head_bytes k.shape → d ≡ data_at k.shape → n ≡ data_bytes k.shape

@@ -1,23 +1,18 @@
 -- The sizes of a packet's parts by its shape, and that a page of a row ends within the row.
 -- Assumes nothing.
-use mathlib.Core.Path.{◌≡◌, refl, sym, ◌∙◌}
+use mathlib.Core.Path.{◌≡◌, refl}
 use mathlib.Core.Bool.{Bool, true, false, ◌&&◌}
 use mathlib.Core.List.{List}
 use Prim.Native.Nat.{ℕ, ◌+◌, ◌≤◌, ◌<◌}
 use native.Mathlib.Omega.{arith}
 use lib.Dec.{eqb, leb}
-use lib.ListN.{length, get_or, length-map}
-use mir.Val.{Val}
-use denote.Shadow.{shadow}
+use lib.ListN.{length, get_or}
 use Rattle.card.specs.declared.packets.Shape.{Shape}
 use Rattle.card.specs.declared.packets.Shape.TheVariants.{Malformed, Short, Long}
-use Rattle.card.specs.declared.packets.Packet.{Packet}
 use Rattle.bits.specs.Words.{pick}
 use Rattle.card.specs.Row.{Whole}
 use Rattle.card.specs.Packets.{shape_of, data_bytes, data_at, head_bytes, page_bytes, page_of, page_at, page_shape, malformed}
 use Rattle.card.proofs.Pages.Places.{page_room}
-use Rattle.card.specs.contracts.packets.Shape as shape
-use Rattle.card.specs.contracts.packets.Packet as packet
 
 -- the data end where the page does
 pub data_end : (s : Shape) → data_at s < 256 → data_at s + data_bytes s ≡ page_bytes s
@@ -34,31 +29,6 @@ pub page_most : (s : Shape) → page_bytes s ≤ 512
 page_most Malformed = omega arith
 page_most (Short c) = omega arith
 page_most (Long c) = omega arith
-
--- a packet of the code: COUNT is a byte and there are 512 bytes, so that head and data stand within them
-pub record Sized (k : Packet) : Type 0 where
-  pub count : data_at k.shape < 256
-  pub full : length k.bytes ≡ 512
-  pub head : head_bytes k.shape ≤ page_bytes k.shape
-  pub ends : data_at k.shape + data_bytes k.shape ≡ page_bytes k.shape
-  pub page : page_bytes k.shape ≤ 512
-
-count_known : (s : Shape) (v : List Val) → shadow ((shape.the_row).own_val s v) → data_at s < 256
-count_known Malformed v h = omega arith
-count_known (Short c) v h = omega arith
-count_known (Long c) v h = omega arith
-
--- from what owning it tells
-pub packet_known : (k : Packet) (v : List Val) → shadow ((packet.the_row).own_val k v) → Sized k
-packet_known k v h =
-    let c : data_at k.shape < 256 = count_known k.shape _ h.1.1.0 in
-    record {
-      count = c;
-      full = sym (length-map k.bytes _) ∙ h.1.1.1.0.1.0.1;
-      head = head_most k.shape;
-      ends = data_end k.shape c;
-      page = page_most k.shape;
-    }
 
 -- a page is of 512 bytes only if it may be long
 long_most : (a b : ℕ) (l : Bool) → page_bytes (shape_of a b l) ≤ pick l 512 256

@@ -1,12 +1,11 @@
--- A list laid over a part of another, and what the kit's copy leaves of a part that is lent.
+-- A list laid over a part of another.
 -- Assumes nothing.
-use mathlib.Core.Path.{◌≡◌, refl, sym, ◌∙◌, ap}
+use mathlib.Core.Path.{◌≡◌, refl, ◌∙◌, ap}
 use mathlib.Core.List.{List, ◌++◌}
 use Prim.Native.Nat.{ℕ, zero, suc, ◌+◌, ◌-◌, ◌≤◌, ◌<◌}
 use native.Mathlib.Omega.{arith}
-use lib.ListN.{length, get_or, take, drop, replicate, length-take, length-drop, length-append, take-append-drop, drop_of_length-le, get_or-append}
-use lib.Seq.{drop-length, length-take-le, take_at, drop_at, get_or-take, get_or-drop, get_or-append-add}
-use borrow.Rule.Slice.PartMut.{mid_of, put_mid}
+use lib.ListN.{length, get_or, take, drop, replicate, length-drop, length-append, get_or-append}
+use lib.Seq.{length-take-le, take_at, drop_at, get_or-take, get_or-drop, get_or-append-add}
 use Rattle.card.specs.Packets.{laid}
 
 -- the length of a part as the code lends it
@@ -24,18 +23,6 @@ drop_replicate (suc n) (suc m) a = let e : suc m - suc n ≡ m - n = omega arith
 
 pub zeros_left : (n m : ℕ) (z : List ℕ) → z ≡ replicate m 0 → drop (n - 0) z ≡ replicate (m - n) 0
 zeros_left n m z e = let f : n - 0 ≡ n = omega arith in rw (e, f) (drop_replicate n m 0)
-
--- what `bytes::copy` leaves of dst: where there is room for no more, it is src
-abbrev pub copy : List ℕ → List ℕ → List ℕ
-copy src dst = take (length src) src ++ drop (length src) dst
-
-pub copied : (src dst : List ℕ) → length dst ≤ length src → copy src dst ≡ src
-copied src dst h =
-    ap (λ (t : List ℕ). take (length src) src ++ t) (drop_of_length-le dst h ∙ sym (drop-length src)) ∙ take-append-drop (length src) src
-
--- a copy into the part of k bytes at a
-pub lay : (a k : ℕ) (src xs y ys : List ℕ) → src ≡ ys → k ≡ length ys → y ≡ copy src (mid_of a k xs) → put_mid a k xs y ≡ laid a ys xs
-lay a k src xs y ys e f g = rw (g, e, copied ys (mid_of a k xs) (simp length-take (omega arith)), f)
 
 -- a list joined to another, past the first
 past : (l m : List ℕ) (n i : ℕ) → length l ≡ n → n ≤ i → get_or (l ++ m) i 0 ≡ get_or m (i - n) 0
