@@ -1,7 +1,6 @@
 -- Text gathered in a buffer: what each byte does to the buffer and to the count of its bytes, and the text of numbers and bytes.
 -- Assumes nothing.
-use Rattle.std.specs.Prelude.{Bool, true, false, cond, List, [], ◌∷◌, ◌++◌, ℕ, zero, suc, ◌+◌, ◌*◌, ◌/◌, ◌%◌, ◌^◌, ltb, get_or, set}
-use Rattle.io.specs.Digits.{hex_digit_ascii}
+use Rattle.std.specs.Prelude.{◌≡◌, ◌⊎◌, Bool, true, false, cond, List, [], ◌∷◌, ◌++◌, ℕ, zero, suc, ◌+◌, ◌*◌, ◌/◌, ◌%◌, ◌^◌, ◌≤◌, ltb, get_or, set}
 
 abbrev pub ROOM : ℕ
 ROOM = 4096
@@ -28,14 +27,26 @@ unfoldable pub gather : Gathered → List ℕ → Gathered
 gather g [] = g
 gather g (b ∷ s) = gather (put g b) s
 
+-- a write failed while the text s was gathered: a front of it is gathered, which fills the buffer
+unfoldable pub Stopped : Gathered → List ℕ → List ℕ → Type 0
+Stopped g s out = (front rest : List ℕ) × (s ≡ front ++ rest) × (ROOM ≤ (gather g front).count) × (out ≡ (gather g front).held)
+
+-- a write failed while the text s was gathered, or after that
+abbrev pub Unwritten : Gathered → List ℕ → List ℕ → Type 0
+Unwritten g s out = Stopped g s out ⊎ (out ≡ (gather g s).held)
+
 -- the buffer after a line of its own
 unfoldable pub line_of : List ℕ → List ℕ → List ℕ
 line_of out s = (put (gather (got out 0) s) NEWLINE).held
 
+-- the ASCII code of a digit below 16: 0 to 9, then a to f
+abbrev pub glyph : ℕ → ℕ
+glyph d = cond (ltb d 10) (48 + d) (87 + d)
+
 -- a number in decimal, of at most k digits
 unfoldable pub digits : ℕ → ℕ → List ℕ
 digits zero n = []
-digits (suc k) n = cond (ltb n 10) (hex_digit_ascii n ∷ []) (digits k (n / 10) ++ (hex_digit_ascii (n % 10) ∷ []))
+digits (suc k) n = cond (ltb n 10) (glyph n ∷ []) (digits k (n / 10) ++ (glyph (n % 10) ∷ []))
 
 unfoldable pub decimal : ℕ → List ℕ
 decimal n = digits 20 n

@@ -1,10 +1,11 @@
 // Text on standard error, for a person beside the program's output.
-use libc::STDERR_FILENO;
+use std::io;
+use std::io::Stderr;
 
-pub fn text(s: &[u8]) {
-    io::write_all(STDERR_FILENO, s);
+pub fn text(err: Stderr, s: &[u8]) -> io::Result<()> {
+    err.write_all(s)
 }
 
-pub fn decimal(n: usize) {
-    io::print_decimal(STDERR_FILENO, n as u64);
+pub fn decimal(err: Stderr, n: usize) -> io::Result<()> {
+    err.print(n)
 }

@@ -1,3 +1,4 @@
+-- The data of a page stay within its row.
 use Rattle.std.proofs.Common.{ap, ◌∙◌, arith}
 use borrow.Author.Tests.{lt-ltb, le-ltb}
 use Rattle.places.proofs.Places.{onward_part}
@@ -15,14 +16,14 @@ returns-then-page-gt3-clause-bytes c = simp (lt-ltb _ _ c.if-page-gt3.true)
 pub returns-then-page-gt3-clause-place : goal.returns-then-page-gt3-clause-place
 returns-then-page-gt3-clause-place c = λ e. absurd (page_refused _ _ (lt-ltb _ _ c.if-page-gt3.true) e)
 
--- the data end within the row
 pub slice_bounds-result-end-2 : goal.slice_bounds-result-end-2
 slice_bounds-result-end-2 c =
     let f = data_fits c.args.row.now c.args.page c.requires (omega arith) c.page_shape-shape.result c.page_shape-shape.ensures (λ i. omega (arith, c.type_inv.row i)) in
     let e = ap (λ (q : Page). q.at) c.page_of.ensures.0 in
     omega (arith, f, e, c.data_at.ensures, c.data_bytes.ensures)
 
--- that stretch is the page's data, and where it stands
+-- That stretch is the page's data:
+-- its bytes, and then its place.
 pub returns-clause-bytes : goal.returns-clause-bytes
 unfolding page_data
 returns-clause-bytes c =
