@@ -5,12 +5,6 @@ use Rattle.line.proofs.Turn.Outcomes.{asked_is}
 use Rattle.line.proofs.Turn.Sends.{happened_bounds}
 use Rattle.line.proofs.traffic.asked.Goals as goal
 
-pub rows-n-requires : goal.rows-n-requires
-rows-n-requires c = (bounds _ c.requires.net_value).header
-
-pub happen-requires : goal.happen-requires
-happen-requires c = (bounds _ c.requires.net_value).all _ c.rows-n.ensures.0
-
 pub regs_at-requires : goal.regs_at-requires
 regs_at-requires c = (happened_bounds _ c.requires.net_value _ c.rows-n.ensures.0 (Message c.args.h false) _ c.happen.ensures).row _ c.requires.h_bound
 

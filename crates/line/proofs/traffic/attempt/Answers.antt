@@ -3,15 +3,6 @@ use Rattle.table.proofs.Shaped.Bounds.{bounds}
 use Rattle.line.proofs.Turn.Tries.{tried_malformed, tried_broadcast, tried_enquiry}
 use Rattle.line.proofs.traffic.attempt.Goals as goal
 
-pub row_at-requires : goal.row_at-requires
-row_at-requires c = shape_within _ c.requires.net_value _ c.requires.h_bound
-
-pub regs_at-requires : goal.regs_at-requires
-regs_at-requires c = shape_within _ c.requires.net_value _ c.requires.h_bound
-
-pub put_regs-requires : goal.put_regs-requires
-put_regs-requires c = shape_within _ c.requires.net_value _ c.requires.h_bound
-
 pub returns-then-malformed : goal.returns-then-malformed
 returns-then-malformed c =
     let a = c.args in
@@ -19,21 +10,12 @@ returns-then-malformed c =
     _ c.regs_at.ensures _ c.sent-g.ensures _ c.put_regs.ensures in
     record { answer = e.0; bytes = e.1 }
 
-pub row_at-requires-2 : goal.row_at-requires-2
-row_at-requires-2 c = shape_within _ c.requires.net_value _ c.requires.h_bound
-
 pub returns-then-id-eq0 : goal.returns-then-id-eq0
 returns-then-id-eq0 c =
     let a = c.args in
     let e = tried_broadcast a.net.now a.h a.page a.fault _ c.row_at.ensures.bytes _ c.page_shape.ensures _ c.malformed.ensures c.if-malformed.false
     _ c.row_at-2.ensures.bytes _ c.destination-id.ensures c.if-id-eq0.true _ _ (c.broadcast.ensures.answer, c.broadcast.ensures.bytes) in
     record { answer = e.0; bytes = e.1 }
-
-pub rows-requires : goal.rows-requires
-rows-requires c = (bounds _ c.requires.net_value).header
-
-pub node_of-t-requires : goal.node_of-t-requires
-node_of-t-requires c = (bounds _ c.requires.net_value).all _ c.rows.ensures.0
 
 pub returns : goal.returns
 returns c =

@@ -5,12 +5,6 @@ use Rattle.line.proofs.Turn.Outcomes.{is_broadcast}
 use Rattle.line.proofs.Turn.Sends.{went_bounds}
 use Rattle.line.proofs.traffic.broadcast.Goals as goal
 
-pub rows-n-requires : goal.rows-n-requires
-rows-n-requires c = (bounds _ c.requires.net_value).header
-
-pub row_at-requires : goal.row_at-requires
-row_at-requires c = shape_within _ c.requires.net_value _ c.requires.h_bound
-
 pub regs_at-requires : goal.regs_at-requires
 regs_at-requires c =
     (went_bounds _ c.requires.net_value (λ i. search rules) _ _ c.requires.h_bound c.requires.page_bound _ _ _ _ c.send.ensures).row _ c.requires.h_bound

@@ -4,12 +4,6 @@ use Rattle.line.proofs.Turn.Outcomes.{arrives_is, delivered}
 use Rattle.line.proofs.Turn.Sends.{went_bounds}
 use Rattle.line.proofs.traffic.deliver.Goals as goal
 
-pub row_at-requires : goal.row_at-requires
-row_at-requires c = shape_within _ c.requires.net_value _ c.requires.h_bound
-
-pub regs_at-requires : goal.regs_at-requires
-regs_at-requires c = shape_within _ c.requires.net_value _ c.requires.t_bound
-
 pub regs_at-requires-2 : goal.regs_at-requires-2
 regs_at-requires-2 c =
     (went_bounds _ c.requires.net_value (λ i. search rules) _ _ c.requires.h_bound c.requires.page_bound _ _ _ _ c.send.ensures).row _ c.requires.h_bound

@@ -3,17 +3,11 @@ use Rattle.table.proofs.Shaped.Bounds.{bounds}
 use Rattle.line.proofs.Turn.Outcomes.{no_answer, refused, answered_by}
 use Rattle.line.proofs.traffic.enquire.Goals as goal
 
-pub rows-requires : goal.rows-requires
-rows-requires c = (bounds _ c.requires.net_value).header
-
 pub returns-then-rows-t : goal.returns-then-rows-t
 returns-then-rows-t c =
     let a = c.args in
     let e = no_answer a.net.now a.h a.page a.fault a.t _ c.rows.ensures.0 c.if-rows-t.true _ c.asked.ensures in
     record { answer = e.0; bytes = e.1 }
-
-pub regs_at-requires : goal.regs_at-requires
-regs_at-requires c = (bounds _ c.requires.net_value).row _ (omega (arith, c.rows.ensures.0, c.if-rows-t.false))
 
 pub returns-then-receiving : goal.returns-then-receiving
 returns-then-receiving c =

@@ -5,12 +5,6 @@ use Rattle.table.proofs.Shaped.Bounds.{bounds}
 use Rattle.line.proofs.Turn.Sends.{stamped_is, stamped_bounds, went_fits, went_damaged, went_whole}
 use Rattle.line.proofs.traffic.send.Goals as goal
 
-pub rows-n-requires : goal.rows-n-requires
-rows-n-requires c = (bounds _ c.requires.net_value).header
-
-pub row_start-a-requires : goal.row_start-a-requires
-row_start-a-requires c = shape_within _ c.requires.net_value _ c.requires.h_bound
-
 pub row_end-e-requires : goal.row_end-e-requires
 row_end-e-requires c = walked_room _ _ _ c.row_start-a.ensures (shape_within _ c.requires.net_value _ c.requires.h_bound)
 

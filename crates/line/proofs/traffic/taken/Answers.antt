@@ -2,12 +2,6 @@ use Rattle.table.proofs.Shaped.Shapes.{shape_within}
 use Rattle.line.proofs.Turn.Tries.{cancels_ready, taken_nothing, taken_tried}
 use Rattle.line.proofs.traffic.taken.Goals as goal
 
-pub regs_at-requires : goal.regs_at-requires
-regs_at-requires c = shape_within _ c.requires.net_value _ c.requires.h_bound
-
-pub put_regs-requires : goal.put_regs-requires
-put_regs-requires c = shape_within _ c.requires.net_value _ c.requires.h_bound
-
 pub attempt-requires-clause-net_value : goal.attempt-requires-clause-net_value
 attempt-requires-clause-net_value c =
     (cancels_ready _ c.requires.net_value _ c.requires.h_bound c.args.fault _ c.regs_at.ensures _ c.cancelled-g.ensures _ c.put_regs.ensures _ c.transmit_page.ensures).0
