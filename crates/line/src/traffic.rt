@@ -1,4 +1,6 @@
 // Document 01, "One line step", TAKEN: the holder's packet.
+#![tactic(auto, using(table::proofs::Shaped::Shapes::shape_least, table::proofs::Shaped::Shapes::shape_within, table::proofs::Shaped::Shapes::shape_room))]
+
 ghost use Rattle.std.specs.Prelude.{◌≡◌, true, ◌<◌};
 ghost use Rattle.table.specs.Network.{rows, shape};
 ghost use Rattle.line.specs.Traffic.{outcome_row, went_out, asked, broadcast_turn, packet_turn, enquiry_turn, try_turn, taken_turn};
