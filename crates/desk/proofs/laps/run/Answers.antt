@@ -7,10 +7,10 @@ use Rattle.desk.proofs.laps.run.Goals.{then-invitation, else-invitation}
 
 pub loop-back-init : goal.loop-back-init
 loop-back-init c =
-    let s = c.requires.net_value in
+    let s = c.requires.shaped in
     let e : Stepped c.args.net.now c.step_on.result c.step_on.new.net = (c.step_on.ensures.answer, c.step_on.ensures.bytes) in
     let bytes : Bytes c.args.net.now = search rules in
-    starts _ s (bytes_rams _ s bytes) c.requires.net_value_2 c.requires.bound _ _ e _ c.value-first.ensures _ c.nobody-list.ensures
+    starts _ s (bytes_rams _ s bytes) c.requires.lost c.requires.two _ _ e _ c.value-first.ensures _ c.nobody-list.ensures
 
 pub step_on-answer-requires : goal.step_on-answer-requires
 step_on-answer-requires c = going_shape _ _ _ _ _ _ _ _ c.loop-back.invariant
@@ -74,10 +74,10 @@ loop-back-preserved c =
 
 pub returns : goal.returns
 returns c =
-    let s = c.requires.net_value in
+    let s = c.requires.shaped in
     let e : Stepped c.args.net.now c.step_on.result c.step_on.new.net = (c.step_on.ensures.answer, c.step_on.ensures.bytes) in
     let bytes : Bytes c.args.net.now = search rules in
-    let d = ends _ s (bytes_rams _ s bytes) c.requires.net_value_2 c.requires.bound _ _ e _ c.value-first.ensures
+    let d = ends _ s (bytes_rams _ s bytes) c.requires.lost c.requires.two _ _ e _ c.value-first.ensures
         _ _ _ _ _ _ c.loop-back.invariant (ap not c.loop-back-test.false) in
     record {
       answer = ap (λ (t : ℕ). record { number = 0; total = t }) d.answer;

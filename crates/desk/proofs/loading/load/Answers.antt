@@ -28,7 +28,7 @@ load_row-requires c =
     let p = at_row c.args.order.now c.args.net.now _ c.check-checked.ensures c.if-checked-ne-DONE.false _ c.records-n.ensures
         _ c.fresh-number.ensures.number _ c.fresh-number.ensures.bytes c.if-number-ne-DONE.false
         _ c.loop-k-test.true _ c.loop-k.invariant.2 in
-    record { net_value = p.0; k_bound = p.1 }
+    record { shaped = p.0; row = p.1 }
 
 pub loop-k-preserved : goal.loop-k-preserved
 loop-k-preserved c = (search rules, search rules, rows_more _ _ _ _ c.loop-k.invariant.2 _ c.id_at.ensures _ c.flags_at.ensures _ c.load_row.ensures)
