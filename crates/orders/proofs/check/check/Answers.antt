@@ -1,4 +1,4 @@
-use Rattle.std.proofs.Common.{◌∙◌, arith, rules, sym}
+use Rattle.std.proofs.Common.{◌∙◌, arith, sym}
 use Rattle.orders.proofs.Checks.Tests.{number_is}
 use Rattle.orders.proofs.Checks.Told.{tells_bad, goes_on}
 use Rattle.orders.proofs.check.check.Goals as goal
