@@ -1,7 +1,5 @@
 use Rattle.std.proofs.Common.{false}
 use Rattle.line.specs.declared.passes.Event.TheVariants.{Message}
-use Rattle.table.proofs.Shaped.Bounds.{bounds}
-use Rattle.line.proofs.Turn.Outcomes.{asked_is}
 use Rattle.line.proofs.Turn.Sends.{happened_bounds}
 use Rattle.line.proofs.traffic.asked.Goals as goal
 
@@ -10,7 +8,3 @@ regs_at-requires c = (happened_bounds _ c.requires.net_value _ c.rows-n.ensures.
 
 pub put_regs-requires : goal.put_regs-requires
 put_regs-requires c = (happened_bounds _ c.requires.net_value _ c.rows-n.ensures.0 (Message c.args.h false) _ c.happen.ensures).row _ c.requires.h_bound
-
-pub returns : goal.returns
-returns c =
-    asked_is c.args.net.now c.args.h _ c.rows-n.ensures.0 c.args.nak _ c.happen.ensures _ c.regs_at.ensures _ c.enquired-g.ensures _ c.put_regs.ensures

@@ -1,7 +1,5 @@
-use Rattle.std.proofs.Common.{rules}
-use Rattle.table.proofs.Rows.Walks.{row_sized, walked_room, walked_lies}
+use Rattle.table.proofs.Rows.Walks.{row_sized, walked_room}
 use Rattle.table.proofs.Shaped.Shapes.{shape_within}
-use Rattle.table.proofs.Shaped.Bounds.{bounds}
 use Rattle.line.proofs.Turn.Sends.{stamped_is, stamped_bounds, went_fits, went_damaged, went_whole}
 use Rattle.line.proofs.traffic.send.Goals as goal
 
@@ -16,41 +14,31 @@ pub row_at-requires : goal.row_at-requires
 row_at-requires c =
     let s = c.requires.net_value in
     let l = c.requires.h_bound in
-    let q = walked_lies _ _ _ c.row_start-a.ensures (shape_within _ s _ l) _ c.row_end-e.ensures in
-    (stamped_bounds _ s _ _ l _ (stamped_is _ s _ _ l _ _ q _ c.stamp.ensures)).row _ l
+    (stamped_bounds _ s _ _ l _ (stamped_is _ s _ _ l _ c.row_start-a.ensures _ c.row_end-e.ensures _ c.stamp.ensures)).row _ l
 
 pub happen-requires : goal.happen-requires
 happen-requires c =
     let s = c.requires.net_value in
     let l = c.requires.h_bound in
-    let q = walked_lies _ _ _ c.row_start-a.ensures (shape_within _ s _ l) _ c.row_end-e.ensures in
-    (stamped_bounds _ s _ _ l _ (stamped_is _ s _ _ l _ _ q _ c.stamp.ensures)).all _ c.rows-n.ensures.0
+    (stamped_bounds _ s _ _ l _ (stamped_is _ s _ _ l _ c.row_start-a.ensures _ c.row_end-e.ensures _ c.stamp.ensures)).all _ c.rows-n.ensures.0
 
-pub carry-requires-clause-n_in_bounds : goal.carry-requires-clause-n_in_bounds
-carry-requires-clause-n_in_bounds c =
+pub carry-requires : goal.carry-requires
+carry-requires c =
     let s = c.requires.net_value in
     let l = c.requires.h_bound in
-    let q = walked_lies _ _ _ c.row_start-a.ensures (shape_within _ s _ l) _ c.row_end-e.ensures in
-    (went_fits _ s _ _ l _ c.rows-n.ensures.0 _ _ (stamped_is _ s _ _ l _ _ q _ c.stamp.ensures) c.happen.ensures).0
-
-pub carry-requires-clause-n_value : goal.carry-requires-clause-n_value
-carry-requires-clause-n_value c =
-    let s = c.requires.net_value in
-    let l = c.requires.h_bound in
-    let q = walked_lies _ _ _ c.row_start-a.ensures (shape_within _ s _ l) _ c.row_end-e.ensures in
-    (went_fits _ s _ _ l _ c.rows-n.ensures.0 _ _ (stamped_is _ s _ _ l _ _ q _ c.stamp.ensures) c.happen.ensures).1
+    let e = went_fits _ s _ _ l _ c.rows-n.ensures.0 _ _ (stamped_is _ s _ _ l _ c.row_start-a.ensures _ c.row_end-e.ensures _ c.stamp.ensures) c.happen.ensures in
+    record { n_in_bounds = e.0; n_value = e.1 }
 
 pub returns-then-fault-ne1 : goal.returns-then-fault-ne1
 returns-then-fault-ne1 c =
     let s = c.requires.net_value in
     let l = c.requires.h_bound in
-    let q = walked_lies _ _ _ c.row_start-a.ensures (shape_within _ s _ l) _ c.row_end-e.ensures in
-    went_whole _ s _ _ l _ c.rows-n.ensures.0 _ _ (stamped_is _ s _ _ l _ _ q _ c.stamp.ensures) c.happen.ensures
+    went_whole _ s _ _ l _ c.rows-n.ensures.0 _ _ (stamped_is _ s _ _ l _ c.row_start-a.ensures _ c.row_end-e.ensures _ c.stamp.ensures) c.happen.ensures
     _ _ _ c.if-fault-ne1.true _ c.row_at.ensures.bytes _ c.packet_at-packet.ensures _ c.carry.ensures
 
 pub returns-else-fault-ne1 : goal.returns-else-fault-ne1
 returns-else-fault-ne1 c =
     let s = c.requires.net_value in
     let l = c.requires.h_bound in
-    let q = walked_lies _ _ _ c.row_start-a.ensures (shape_within _ s _ l) _ c.row_end-e.ensures in
-    went_damaged _ s _ _ l _ c.rows-n.ensures.0 _ _ (stamped_is _ s _ _ l _ _ q _ c.stamp.ensures) c.happen.ensures _ _ _ c.if-fault-ne1.false
+    went_damaged _ s _ _ l _ c.rows-n.ensures.0 _ _ (stamped_is _ s _ _ l _ c.row_start-a.ensures _ c.row_end-e.ensures _ c.stamp.ensures) c.happen.ensures
+    _ _ _ c.if-fault-ne1.false

@@ -1,18 +1,10 @@
-use Rattle.table.proofs.Shaped.Shapes.{shape_within}
 use Rattle.line.proofs.Turn.Tries.{cancels_ready, taken_nothing, taken_tried}
 use Rattle.line.proofs.traffic.taken.Goals as goal
 
-pub attempt-requires-clause-net_value : goal.attempt-requires-clause-net_value
-attempt-requires-clause-net_value c =
-    (cancels_ready _ c.requires.net_value _ c.requires.h_bound c.args.fault _ c.regs_at.ensures _ c.cancelled-g.ensures _ c.put_regs.ensures _ c.transmit_page.ensures).0
-
-pub attempt-requires-clause-h_bound : goal.attempt-requires-clause-h_bound
-attempt-requires-clause-h_bound c =
-    (cancels_ready _ c.requires.net_value _ c.requires.h_bound c.args.fault _ c.regs_at.ensures _ c.cancelled-g.ensures _ c.put_regs.ensures _ c.transmit_page.ensures).1.0
-
-pub attempt-requires-clause-page_bound : goal.attempt-requires-clause-page_bound
-attempt-requires-clause-page_bound c =
-    (cancels_ready _ c.requires.net_value _ c.requires.h_bound c.args.fault _ c.regs_at.ensures _ c.cancelled-g.ensures _ c.put_regs.ensures _ c.transmit_page.ensures).1.1
+pub attempt-requires : goal.attempt-requires
+attempt-requires c =
+    let e = cancels_ready _ c.requires.net_value _ c.requires.h_bound c.args.fault _ c.regs_at.ensures _ c.cancelled-g.ensures _ c.put_regs.ensures _ c.transmit_page.ensures in
+    record { net_value = e.0; h_bound = e.1.0; page_bound = e.1.1 }
 
 pub returns-then-transmitting : goal.returns-then-transmitting
 returns-then-transmitting c =
