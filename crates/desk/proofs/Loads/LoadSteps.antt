@@ -20,7 +20,8 @@ use Rattle.orders.specs.Form.{records, record_at, id_at, flags_of, RECEIVE, LONG
 use Rattle.orders.specs.Check.{tells, checked}
 use Rattle.orders.proofs.Checks.Fit.{fits_told, told_fits, order_records}
 use Rattle.desk.specs.Load.{set19, set_id, set_long, set_receive, loaded_row, loaded_rows, loading, load_number, net_after_load}
-use Rattle.desk.proofs.Loads.Loaded.{number, load_order, load_room, load_refused}
+use Rattle.desk.proofs.Loads.Unfit.{load_order}
+use Rattle.desk.proofs.Loads.Loaded.{number, load_room, load_refused}
 
 -- `new` may be written where `net` may
 pub record Writable (net new : List ℕ) : Type 0 where

@@ -1,7 +1,7 @@
 -- Loading an order that fits: no write is refused, and the network has a row on line for each record, with its ID, in LOST.
 -- Assumes nothing.
 use mathlib.Core.Path.{◌≡◌, sym, ◌∙◌, ap}
-use mathlib.Core.Bool.{true, false, not}
+use mathlib.Core.Bool.{true, false}
 use mathlib.Core.List.{List}
 use mathlib.Core.Logic.{⊎_elim}
 use Prim.Native.Nat.{ℕ, zero, suc, ◌*◌, ◌≤◌, ◌<◌}
@@ -12,15 +12,14 @@ use lib.ListN.{length}
 use borrow.Author.Tests.{ne_eqb, eqb-true, eqb-false, ltb-true, ltb-false}
 use Rattle.card.specs.Row.{regs_of}
 use Rattle.registers.specs.Registers.{hardware_reset}
-use Rattle.told.specs.Numbers.{DONE, ROOM, told}
-use Rattle.told.proofs.Told.Smallest.{refuse_stays}
+use Rattle.told.specs.Numbers.{DONE, told}
 use Rattle.card.specs.Access.{fresh_row}
 use Rattle.bits.proofs.Words.Bools.{cases}
 use Rattle.card.proofs.Rows.WellFormed.{fresh_off}
 use Rattle.card.proofs.Rows.WellFormed.{regs_fresh}
 use Rattle.table.specs.Rows.{row_at}
 use Rattle.table.specs.Network.{rows, phase, LOST, regs_at, on_line_at, is_node, shape}
-use Rattle.table.specs.Calls.{net_after_fresh, fresh_net, exact_length}
+use Rattle.table.specs.Calls.{net_after_fresh, fresh_net}
 use Rattle.table.proofs.Folds.{clash}
 use Rattle.table.proofs.Online.Nodes.{online_is, node_online, node_id, online_same}
 use Rattle.table.proofs.Access.Fresh.{fresh_room, fresh_net_lem, header_fresh, row_at_fresh}
@@ -31,6 +30,7 @@ use Rattle.orders.specs.Check.{tells, checked}
 use Rattle.orders.proofs.Forms.Records.{records_within}
 use Rattle.orders.proofs.Checks.Fit.{fits_told, told_fits, order_records, order_id, order_differ, bad_within}
 use Rattle.desk.specs.Load.{loaded_row, loaded_rows, room_refusals, loading, load_number, net_after_load}
+use Rattle.desk.proofs.Loads.Unfit.{load_order}
 use Rattle.desk.proofs.Loads.LoadRow.{Unrefused, row_unrefused, row_loaded, row_on}
 
 abbrev pub number : Checked → ℕ
@@ -113,13 +113,8 @@ module _ (order : List ℕ) (o : order_fits order ≡ true) where
 
 -- ---- what is told: of the order, and then ROOM, as the fresh call tells it
 module _ (order net : List ℕ) where
-  pub load_order : ((checked order).number ≡ DONE → ⊥) → loading order net ≡ checked order
-  unfolding loading
-  load_order u =
-      ap (λ (n : ℕ). tells n (checked order).bad) (refuse_stays (checked order).number ROOM (not (eqb (length net) (exact_length (records order)))) u)
-
   pub order_first : order_fits order ≡ false → loading order net ≡ checked order
-  order_first o = load_order (λ z. clash (told_fits order z) o)
+  order_first o = load_order order net (λ z. clash (told_fits order z) o)
 
   pub load_room : order_fits order ≡ true → loading order net ≡ tells (told (room_refusals order net)) 0
   unfolding loading
