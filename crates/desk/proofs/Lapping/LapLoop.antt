@@ -17,13 +17,12 @@ use Rattle.line.specs.Traffic.{Turn}
 use Rattle.line.proofs.Steps.StepIs.{step_is}
 use Rattle.table.proofs.Shaped.Shapes.{shape_within, shape_rows}
 use Rattle.line.proofs.Steps.View.{Rams, any_step}
-use Rattle.line.proofs.Steps.StepBy.{frame_step}
 use Rattle.desk.specs.declared.laps.Taker.{Taker}
 use Rattle.desk.specs.Lap.{nodes, after, answers, invitation, passed, invitations, nobody, takers, lap_steps}
 use Rattle.desk.proofs.Runs.Steps.{after_more}
 use Rattle.desk.proofs.Runs.Back.{start, first_holder_lem}
 use Rattle.desk.proofs.Runs.LapCounts.{lap_entries}
-use Rattle.desk.proofs.Lapping.Walking.{alikes, after_size}
+use Rattle.desk.proofs.Lapping.Walking.{alikes}
 use Rattle.desk.proofs.Lapping.Course.{left, left_is, course, lap_after, lap_invitations, lap_takers_lem}
 use Rattle.desk.proofs.Lapping.Going.{Going, passed_invites, begin, step_other, other_next, space, small, below, step_passed, passed_next}
 
@@ -45,11 +44,6 @@ module _ (net : List ℕ) (s : shape net ≡ true) (b : Rams net) (lost : phase 
   starts list l =
       let f = ef ∙ ap answer_value (told net s a new e ∙ (start net s b lost two).answer) ∙ sym (first_holder_lem net s b lost two) in
       begin new first (rw (came net s a new e) (course net s b lost two first f)) list l
-
-  -- the network is as long as it was
-  pub same_size : (now : List ℕ) (list : List Taker) (n recent total : ℕ) (home : Bool) → Going new first now list n recent total home → length now ≡ length net
-  same_size now list n recent total home v =
-      ap length v.now_is ∙ after_size new v.course.fits v.course.rams v.k ∙ ap length (came net s a new e) ∙ (frame_step net s b 0).size
 
   -- the loop has ended
   pub record Ended (now : List ℕ) (list : List Taker) (n total : ℕ) : Type 0 where

@@ -14,7 +14,6 @@ use Rattle.line.specs.Step.{step}
 use Rattle.desk.specs.declared.laps.Taker.{Taker}
 use Rattle.desk.specs.Lap.{nodes, after, answers, invitation, passed, invitations, takers, back, lap_steps, runs, net_after_lap}
 use Rattle.line.proofs.Steps.View.{Rams, Alike, alike_same, alike_then, any_step}
-use Rattle.line.proofs.Steps.StepBy.{frame_step}
 use Rattle.desk.proofs.Runs.Steps.{after_none, after_more, answers_none, answers_more, since, since_none, since_more, invitations_none, invitations_more, takers_more}
 use Rattle.desk.proofs.Runs.Back.{is_back, lap_steps_lem}
 use Rattle.desk.proofs.Runs.LapCounts.{lap_entries}
@@ -25,13 +24,6 @@ alikes net s b zero = rw after_none (alike_same net s b)
 alikes net s b (suc k) =
     let a = alikes net s b k in
     rw after_more (alike_then a (any_step (after k net) a.fits a.rams))
-
--- each network is as long as the first
-pub after_size : (net : List ℕ) → shape net ≡ true → Rams net → (k : ℕ) → length (after k net) ≡ length net
-after_size net s b zero = rw after_none
-after_size net s b (suc k) =
-    let a = alikes net s b k in
-    rw after_more ((frame_step (after k net) a.fits a.rams 0).size ∙ after_size net s b k)
 
 pub shape_lap : (net : List ℕ) → shape net ≡ true → Rams net → (room : ℕ) → shape (net_after_lap net room) ≡ true
 unfolding net_after_lap
