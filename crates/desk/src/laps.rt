@@ -106,9 +106,9 @@ pub fn nobody() -> [Taker; ROWS]
 
 // Fault-free steps from LOST until the first holder has the token again.
 fn run(net: &mut [u8]) -> Walked
-    requires net_value { shape net.old ≡ true }
-    requires net_value_2 { phase net.old ≡ LOST }
-    requires bound { 2 ≤ nodes net.old }
+    requires shaped { shape net.old ≡ true }
+    requires lost { phase net.old ≡ LOST }
+    requires two { 2 ≤ nodes net.old }
     ensures answer { result.lapped ≡ record { number = 0; total = invitations (answers (lap_steps net.old) net.old) } }
     ensures count { result.n ≡ nodes net.old }
     ensures list { take result.n result.list ≡ takers net.old 0 (answers (lap_steps net.old) net.old) }

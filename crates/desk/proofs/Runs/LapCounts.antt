@@ -8,7 +8,7 @@ use native.Mathlib.Omega.{arith}
 use lib.ListN.{length, length-map, length-append}
 use Rattle.table.specs.Network.{phase, LOST, shape}
 use Rattle.desk.specs.declared.laps.Taker.{Taker}
-use Rattle.desk.specs.Lap.{nodes, answers, invitations, takers, back, lap_steps}
+use Rattle.desk.specs.Lap.{nodes, answers, invitations, takers, lap_steps}
 use Rattle.line.proofs.Steps.View.{Rams}
 use Rattle.desk.proofs.ById.Ring.{calls, roster}
 use Rattle.desk.proofs.ById.Roster.{takes, invites, roster_is}

@@ -7,7 +7,7 @@ use Prim.Native.Nat.{ℕ, suc, ◌≤◌, ◌<◌}
 use native.Mathlib.Nat.{suc_inj}
 use native.Mathlib.Omega.{arith}
 use lib.ListN.{length}
-use Rattle.table.specs.Network.{rows, phase, holder, LOST, regs_at, on_line_at, top_id, shape, SameNodes}
+use Rattle.table.specs.Network.{rows, phase, LOST, regs_at, on_line_at, top_id, shape, SameNodes}
 use Rattle.line.specs.declared.step.Answer.TheVariants.{Recovered}
 use Rattle.line.specs.Step.{step, highest}
 use Rattle.table.proofs.Shaped.Shapes.{shape_ids}

@@ -1,4 +1,4 @@
-use Rattle.std.proofs.Common.{◌≡◌, ℕ, ◌+◌, sym, ap, ◌∙◌, arith, rules}
+use Rattle.std.proofs.Common.{ℕ, ◌+◌, sym, ap, ◌∙◌, arith, rules}
 use Rattle.card.specs.Row.{regs_of}
 use Rattle.table.proofs.Rows.Starts.{start_zero}
 use Rattle.table.proofs.Rows.Walks.{walk_room, walk_row, walk_on}
@@ -20,7 +20,7 @@ loop-k-preserved c =
     let next = walk_on _ c.args.n c.requires _ _ l.invariant.3 c.loop-k-test.true _ c.row_from-row.ensures.bytes in
     let e = sym (online_is _ _ _ _ (c.load.ensures ∙ ap regs_of r) c.on_line.ensures) in
     elim c.if-on_line.branch [
-      then-on_line w ↦
+      | then-on_line w ↦
           (omega arith, omega arith, w.count-is ∙ ap (λ (x : ℕ). x + 1) l.invariant.2 ∙ sym (online_more _ _ ∙ rw (e ∙ w.if-on_line.true)), next)
-    | else-on_line w ↦ (omega arith, omega arith, w.count-is ∙ l.invariant.2 ∙ sym (online_more _ _ ∙ rw (e ∙ w.if-on_line.false)), next)
+      | else-on_line w ↦ (omega arith, omega arith, w.count-is ∙ l.invariant.2 ∙ sym (online_more _ _ ∙ rw (e ∙ w.if-on_line.false)), next)
     ]

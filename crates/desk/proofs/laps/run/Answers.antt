@@ -7,10 +7,10 @@ use Rattle.desk.proofs.laps.run.Goals.{then-invitation, else-invitation}
 
 pub loop-back-init : goal.loop-back-init
 loop-back-init c =
-    let s = c.requires.net_value in
+    let s = c.requires.shaped in
     let e : Stepped c.args.net.now c.step_on.result c.step_on.new.net = (c.step_on.ensures.answer, c.step_on.ensures.bytes) in
     let bytes : Bytes c.args.net.now = search rules in
-    starts _ s (bytes_rams _ s bytes) c.requires.net_value_2 c.requires.bound _ _ e _ c.value-first.ensures _ c.nobody-list.ensures
+    starts _ s (bytes_rams _ s bytes) c.requires.lost c.requires.two _ _ e _ c.value-first.ensures _ c.nobody-list.ensures
 
 pub step_on-answer-requires : goal.step_on-answer-requires
 step_on-answer-requires c = going_shape _ _ _ _ _ _ _ _ c.loop-back.invariant
@@ -41,8 +41,8 @@ loop-back-smaller-then-passed c =
     (turn_passed _ _ _ _ _ _ _ _ _ (c.step_on-answer.ensures.answer, c.step_on-answer.ensures.bytes) _ c.passed.ensures _ c.invitation.ensures
     c.if-invitation.since c.if-invitation.total
     (elim c.if-invitation.branch [
-      then-invitation w ↦ rw w.if-invitation.true (w.since-is, w.total-is)
-    | else-invitation w ↦ rw w.if-invitation.false (w.since-is, w.total-is)
+      | then-invitation w ↦ rw w.if-invitation.true (w.since-is, w.total-is)
+      | else-invitation w ↦ rw w.if-invitation.false (w.since-is, w.total-is)
     ]) _ c.value-row.ensures _ c.loop-back.invariant (ap not c.loop-back-test.true) c.if-passed.true _ c.regs_at.ensures).less
 
 pub loop-back-preserved-then-passed : goal.loop-back-preserved-then-passed
@@ -50,8 +50,8 @@ loop-back-preserved-then-passed c =
     (turn_passed _ _ _ _ _ _ _ _ _ (c.step_on-answer.ensures.answer, c.step_on-answer.ensures.bytes) _ c.passed.ensures _ c.invitation.ensures
     c.if-invitation.since c.if-invitation.total
     (elim c.if-invitation.branch [
-      then-invitation w ↦ rw w.if-invitation.true (w.since-is, w.total-is)
-    | else-invitation w ↦ rw w.if-invitation.false (w.since-is, w.total-is)
+      | then-invitation w ↦ rw w.if-invitation.true (w.since-is, w.total-is)
+      | else-invitation w ↦ rw w.if-invitation.false (w.since-is, w.total-is)
     ]) _ c.value-row.ensures _ c.loop-back.invariant (ap not c.loop-back-test.true) c.if-passed.true _ c.regs_at.ensures).going
 
 pub loop-back-smaller : goal.loop-back-smaller
@@ -59,8 +59,8 @@ loop-back-smaller c =
     (turn_other _ _ _ _ _ _ _ _ _ (c.step_on-answer.ensures.answer, c.step_on-answer.ensures.bytes) _ c.passed.ensures _ c.invitation.ensures
     c.if-invitation.since c.if-invitation.total
     (elim c.if-invitation.branch [
-      then-invitation w ↦ rw w.if-invitation.true (w.since-is, w.total-is)
-    | else-invitation w ↦ rw w.if-invitation.false (w.since-is, w.total-is)
+      | then-invitation w ↦ rw w.if-invitation.true (w.since-is, w.total-is)
+      | else-invitation w ↦ rw w.if-invitation.false (w.since-is, w.total-is)
     ]) _ c.loop-back.invariant (ap not c.loop-back-test.true) c.if-passed.false).less
 
 pub loop-back-preserved : goal.loop-back-preserved
@@ -68,17 +68,17 @@ loop-back-preserved c =
     (turn_other _ _ _ _ _ _ _ _ _ (c.step_on-answer.ensures.answer, c.step_on-answer.ensures.bytes) _ c.passed.ensures _ c.invitation.ensures
     c.if-invitation.since c.if-invitation.total
     (elim c.if-invitation.branch [
-      then-invitation w ↦ rw w.if-invitation.true (w.since-is, w.total-is)
-    | else-invitation w ↦ rw w.if-invitation.false (w.since-is, w.total-is)
+      | then-invitation w ↦ rw w.if-invitation.true (w.since-is, w.total-is)
+      | else-invitation w ↦ rw w.if-invitation.false (w.since-is, w.total-is)
     ]) _ c.loop-back.invariant (ap not c.loop-back-test.true) c.if-passed.false).going
 
 pub returns : goal.returns
 returns c =
-    let s = c.requires.net_value in
+    let s = c.requires.shaped in
     let e : Stepped c.args.net.now c.step_on.result c.step_on.new.net = (c.step_on.ensures.answer, c.step_on.ensures.bytes) in
     let bytes : Bytes c.args.net.now = search rules in
-    let d = ends _ s (bytes_rams _ s bytes) c.requires.net_value_2 c.requires.bound _ _ e _ c.value-first.ensures
-        _ _ _ _ _ _ c.loop-back.invariant (ap not c.loop-back-test.false) in
+    let d = ends _ s (bytes_rams _ s bytes) c.requires.lost c.requires.two _ _ e _ c.value-first.ensures
+    _ _ _ _ _ _ c.loop-back.invariant (ap not c.loop-back-test.false) in
     record {
       answer = ap (λ (t : ℕ). record { number = 0; total = t }) d.answer;
       count = d.count;

@@ -6,14 +6,14 @@ use Rattle.desk.proofs.laps.walk.Goals as goal
 pub returns-then-number-ne-DONE-clause-walks : goal.returns-then-number-ne-DONE-clause-walks
 returns-then-number-ne-DONE-clause-walks c = refused _ _ _ c.lap_number-number.ensures c.if-number-ne-DONE.true _ c.nobody.ensures
 
-pub run-requires-clause-net_value : goal.run-requires-clause-net_value
-run-requires-clause-net_value c = lap_shape _ _ (sym c.lap_number-number.ensures ∙ c.if-number-ne-DONE.false)
+pub run-requires-clause-shaped : goal.run-requires-clause-shaped
+run-requires-clause-shaped c = lap_shape _ _ (sym c.lap_number-number.ensures ∙ c.if-number-ne-DONE.false)
 
-pub run-requires-clause-net_value_2 : goal.run-requires-clause-net_value_2
-run-requires-clause-net_value_2 c = lap_lost _ _ (sym c.lap_number-number.ensures ∙ c.if-number-ne-DONE.false)
+pub run-requires-clause-lost : goal.run-requires-clause-lost
+run-requires-clause-lost c = lap_lost _ _ (sym c.lap_number-number.ensures ∙ c.if-number-ne-DONE.false)
 
-pub run-requires-clause-bound : goal.run-requires-clause-bound
-run-requires-clause-bound c = lap_two _ _ (sym c.lap_number-number.ensures ∙ c.if-number-ne-DONE.false)
+pub run-requires-clause-two : goal.run-requires-clause-two
+run-requires-clause-two c = lap_two _ _ (sym c.lap_number-number.ensures ∙ c.if-number-ne-DONE.false)
 
 pub returns-clause-walks : goal.returns-clause-walks
 returns-clause-walks c =

@@ -11,7 +11,7 @@ returns-then-checked-ne-DONE c =
 pub returns-then-number-ne-DONE : goal.returns-then-number-ne-DONE
 returns-then-number-ne-DONE c =
     let p = is_refused c.args.order.now c.args.net.now _ c.check-checked.ensures c.if-checked-ne-DONE.false _ c.records-n.ensures
-        _ c.fresh-number.ensures.number _ c.fresh-number.ensures.bytes c.if-number-ne-DONE.true in
+    _ c.fresh-number.ensures.number _ c.fresh-number.ensures.bytes c.if-number-ne-DONE.true in
     record { told = p.0; bytes = p.1 }
 
 pub loop-k-init : goal.loop-k-init
@@ -26,9 +26,9 @@ flags_at-requires c = record_within c.args.order.now c.loop-k.k (omega (arith, c
 pub load_row-requires : goal.load_row-requires
 load_row-requires c =
     let p = at_row c.args.order.now c.args.net.now _ c.check-checked.ensures c.if-checked-ne-DONE.false _ c.records-n.ensures
-        _ c.fresh-number.ensures.number _ c.fresh-number.ensures.bytes c.if-number-ne-DONE.false
-        _ c.loop-k-test.true _ c.loop-k.invariant.2 in
-    record { net_value = p.0; k_bound = p.1 }
+    _ c.fresh-number.ensures.number _ c.fresh-number.ensures.bytes c.if-number-ne-DONE.false
+    _ c.loop-k-test.true _ c.loop-k.invariant.2 in
+    record { shaped = p.0; row = p.1 }
 
 pub loop-k-preserved : goal.loop-k-preserved
 loop-k-preserved c = (search rules, search rules, rows_more _ _ _ _ c.loop-k.invariant.2 _ c.id_at.ensures _ c.flags_at.ensures _ c.load_row.ensures)
@@ -36,6 +36,6 @@ loop-k-preserved c = (search rules, search rules, rows_more _ _ _ _ c.loop-k.inv
 pub returns : goal.returns
 returns c =
     let p = is_loaded c.args.order.now c.args.net.now _ c.check-checked.ensures c.if-checked-ne-DONE.false _ c.records-n.ensures
-        _ c.fresh-number.ensures.number _ c.fresh-number.ensures.bytes c.if-number-ne-DONE.false
-        _ (omega arith) _ c.loop-k.invariant.2 in
+    _ c.fresh-number.ensures.number _ c.fresh-number.ensures.bytes c.if-number-ne-DONE.false
+    _ (omega arith) _ c.loop-k.invariant.2 in
     record { told = p.0; bytes = p.1 }
