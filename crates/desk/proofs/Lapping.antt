@@ -1,4 +1,4 @@
--- The lap call: its refusals, its loop, and the walk by hand of its lent list.
+-- The lap call: its refusals and its loop.
 pub mod LapNumber
 pub mod LapDone
 pub mod LapLeaves
@@ -6,6 +6,4 @@ pub mod Walking
 pub mod Course
 pub mod Going
 pub mod LapLoop
-pub mod WalkSteps
-pub mod TakerRows
 pub mod Shuffled

@@ -26,6 +26,7 @@ const LONG_PACKETS: u8 = 0x0d;
 const ENABLE_RECEIVE: u8 = 0x84;
 
 // A row's registers are written, in 01's order. None of the writes refuses a row that was reset.
+#[tactic(auto, using(table::proofs::Access::ShapeCalls::shape_write, crate::proofs::Loads::LoadSteps::rows_write), unfolding(crate::specs::Load::loaded_row))]
 fn load_row(net: &mut [u8], k: usize, id: u8, flags: u8)
     requires net_value { shape net.old ≡ true }
     requires k_bound { k < rows net.old }

@@ -1,3 +1,4 @@
+pub mod Rooms
 pub mod Change
 pub mod Turn
 pub mod Steps

@@ -54,6 +54,7 @@ impl Answer {
     }
 }
 
+#[tactic(auto, using(crate::proofs::Rooms::rooms, table::proofs::Online::Nodes::node_of_most), unfolding(crate::specs::Step::lost_turn, crate::specs::Traffic::happened))]
 fn lost(net: &mut [u8]) -> Answer
     requires { shape net.old ≡ true }
     ensures answer { result ≡ (lost_turn net.old).answer }
@@ -70,6 +71,7 @@ fn lost(net: &mut [u8]) -> Answer
     Answer::Recovered(first)
 }
 
+#[tactic(auto, using(crate::proofs::Rooms::rooms, crate::proofs::Change::Made::rows_happened, crate::proofs::Turn::Sends::is_happened), unfolding(crate::specs::Step::pass_turn, crate::specs::Traffic::on_row))]
 fn pass(net: &mut [u8], fault: usize) -> Answer
     requires net_value { shape net.old ≡ true }
     requires net_bound { holder net.old < rows net.old }
@@ -97,6 +99,7 @@ fn pass(net: &mut [u8], fault: usize) -> Answer
 }
 
 // A step of a network that SHAPE does not refuse. It serves whoever has tested SHAPE already.
+#[tactic(auto, using(crate::proofs::Rooms::rooms, crate::proofs::Steps::Stepped::held_row), unfolding(crate::specs::Step::step_turn))]
 pub fn step_on(net: &mut [u8], fault: usize) -> Answer
     requires { shape net.old ≡ true }
     ensures answer { result ≡ (step_turn net.old fault).answer }
@@ -116,6 +119,7 @@ pub fn step_on(net: &mut [u8], fault: usize) -> Answer
 }
 
 // SHAPE and VALUE.
+#[tactic(auto, unfolding(crate::specs::Step::step_number, crate::specs::Step::step_refusals))]
 fn step_number(net: &[u8], fault: usize) -> u8
     ensures { result ≡ step_number net.now fault }
 {
@@ -124,6 +128,7 @@ fn step_number(net: &[u8], fault: usize) -> u8
 }
 
 // One line step.
+#[tactic(auto, using(crate::proofs::Steps::Stepped::step_shape), unfolding(crate::specs::Step::step))]
 pub fn step(net: &mut [u8], fault: usize) -> Answer
     ensures answer { result ≡ (step net.old fault).answer }
     ensures bytes { net.new ≡ (step net.old fault).after }

@@ -1,4 +1,6 @@
 // Document 01, "One line step", TAKEN: the holder's packet.
+#![tactic(auto, using(crate::proofs::Rooms::rooms))]
+
 ghost use Rattle.std.specs.Prelude.{◌≡◌, true, ◌<◌};
 ghost use Rattle.table.specs.Network.{rows, shape};
 ghost use Rattle.line.specs.Traffic.{outcome_row, went_out, asked, broadcast_turn, packet_turn, enquiry_turn, try_turn, taken_turn};
@@ -56,6 +58,7 @@ fn send(net: &mut [u8], h: usize, page: usize, fault: usize, to: usize, broadcas
     }
 }
 
+#[tactic(auto, using(crate::proofs::Rooms::rooms), unfolding(crate::specs::Traffic::packet_turn, crate::specs::Traffic::on_row))]
 fn deliver(net: &mut [u8], h: usize, page: usize, fault: usize, t: usize) -> Outcome
     requires net_value { shape net.old ≡ true }
     requires h_bound { h < rows net.old }
@@ -77,6 +80,7 @@ fn deliver(net: &mut [u8], h: usize, page: usize, fault: usize, t: usize) -> Out
 }
 
 // An enquiry of row h that no packet follows: the others hear it, and a NAK answered it or nobody did.
+#[tactic(auto, using(crate::proofs::Rooms::rooms), unfolding(crate::specs::Traffic::asked, crate::specs::Traffic::on_row, crate::specs::Traffic::happened))]
 fn asked(net: &mut [u8], h: usize, nak: bool)
     requires net_value { shape net.old ≡ true }
     requires h_bound { h < rows net.old }
@@ -89,6 +93,7 @@ fn asked(net: &mut [u8], h: usize, nak: bool)
 }
 
 // An enquiry goes to row t; no row has the ID where t is not below the number of rows.
+#[tactic(auto, using(crate::proofs::Rooms::rooms), unfolding(crate::specs::Traffic::enquiry_turn))]
 fn enquire(net: &mut [u8], h: usize, page: usize, fault: usize, t: usize) -> Outcome
     requires net_value { shape net.old ≡ true }
     requires h_bound { h < rows net.old }
@@ -107,6 +112,7 @@ fn enquire(net: &mut [u8], h: usize, page: usize, fault: usize, t: usize) -> Out
     Outcome::Nak(t)
 }
 
+#[tactic(auto, using(crate::proofs::Rooms::rooms), unfolding(crate::specs::Traffic::broadcast_turn, crate::specs::Traffic::on_row))]
 fn broadcast(net: &mut [u8], h: usize, page: usize, fault: usize) -> Outcome
     requires net_value { shape net.old ≡ true }
     requires h_bound { h < rows net.old }
@@ -123,6 +129,7 @@ fn broadcast(net: &mut [u8], h: usize, page: usize, fault: usize) -> Outcome
 }
 
 // The holder tries the packet of a page.
+#[tactic(auto, using(crate::proofs::Rooms::rooms), unfolding(crate::specs::Traffic::try_turn, crate::specs::Traffic::on_row))]
 fn attempt(net: &mut [u8], h: usize, page: usize, fault: usize) -> Outcome
     requires net_value { shape net.old ≡ true }
     requires h_bound { h < rows net.old }

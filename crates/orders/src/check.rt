@@ -17,6 +17,7 @@ pub struct Checked {
     pub bad: usize,
 }
 
+#[tactic(auto, unfolding(crate::specs::Form::length_fits))]
 fn length_fits(order: &[u8]) -> bool
     ensures { result ≡ length_fits order.now }
 {
@@ -25,6 +26,7 @@ fn length_fits(order: &[u8]) -> bool
 }
 
 // The refusal of a record by itself, DONE where it fits.
+#[tactic(auto, using(crate::proofs::Forms::Names::mid_name, crate::proofs::Checks::Tests::form_is))]
 fn record_number(form: &[u8]) -> u8
     requires { length form.now ≡ record_bytes }
     ensures { result ≡ told (form_refusals form.now) }
@@ -38,6 +40,7 @@ fn record_number(form: &[u8]) -> u8
 }
 
 // Any bytes of any length may be asked about.
+#[tactic(auto, using(table::proofs::Folds::seek_none, crate::proofs::Forms::Records::records_within, crate::proofs::Checks::Told::tells_length, crate::proofs::Checks::Told::tells_good))]
 pub fn check(order: &[u8]) -> Checked
     ensures { result ≡ checked order.now }
 {

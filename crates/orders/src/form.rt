@@ -17,6 +17,7 @@ pub const RECEIVE: u8 = 1;
 pub const LONG: u8 = 2;
 
 // The number of whole records.
+#[tactic(auto, unfolding(crate::specs::Form::records))]
 pub fn records(order: &[u8]) -> usize
     ensures { result ≡ records order.now }
 {
@@ -24,6 +25,7 @@ pub fn records(order: &[u8]) -> usize
 }
 
 // A record's part of the order.
+#[tactic(auto, using(crate::proofs::Forms::Records::length_record_at), unfolding(places::specs::Places::onward, crate::specs::Form::record_at))]
 pub(crate) fn record_at(order: &[u8], k: usize) -> &[u8]
     requires { record_bytes * k + record_bytes ≤ length order.now }
     ensures bytes { result.now ≡ record_at order.now k }
@@ -49,6 +51,7 @@ pub fn flags_at(order: &[u8], k: usize) -> u8
 }
 
 // Each byte is a printing character, 20 to 7E.
+#[tactic(auto, using(crate::proofs::Forms::Names::printables_here, crate::proofs::Forms::Names::printables_not, crate::proofs::Forms::Names::printables_end))]
 pub fn printable(name: &[u8]) -> bool
     ensures { result ≡ printables name.now }
 {
@@ -63,6 +66,7 @@ pub fn printable(name: &[u8]) -> bool
 }
 
 // The first record with this ID among the first n; n where there is none.
+#[tactic(auto, using(table::proofs::Folds::seek_none, table::proofs::Folds::seek_here, table::proofs::Folds::seek_more))]
 pub fn record_of(order: &[u8], id: u8, n: usize) -> usize
     requires { record_bytes * n ≤ length order.now }
     ensures { result ≡ seek (λ k. eqb (id_at order.now k) id) n }
@@ -78,6 +82,7 @@ pub fn record_of(order: &[u8], id: u8, n: usize) -> usize
 }
 
 // The station name of record k without its trailing spaces; nothing where there is no such record.
+#[tactic(auto, using(crate::proofs::Forms::Records::records_within, crate::proofs::Forms::Names::trim_none, crate::proofs::Forms::Names::name_ends, crate::proofs::Forms::Names::name_shorter, crate::proofs::Forms::Names::name_not, crate::proofs::Forms::Names::name_is), unfolding(places::specs::Places::onward))]
 pub fn name_at(order: &[u8], k: usize) -> &[u8]
     ensures bytes { result.now ≡ name_at order.now k }
     ensures place { k < records order.now → result.ref_ptr ≡ onward order.entry.ref_ptr (name_from k) }

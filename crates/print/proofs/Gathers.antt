@@ -7,10 +7,11 @@ use native.Mathlib.Numerals.{add-one}
 use native.Mathlib.Omega.{arith}
 use lib.ListN.{length, get_or, drop, drop_of_length-le}
 use lib.Seq.{drop-cons}
+use Rattle.std.proofs.Common.{inl, inr}
 use Rattle.std.proofs.lemmas.List.{append-nil}
 use Rattle.std.proofs.lemmas.Result.{on_err_weaker, IfOk-weaker}
 use Rattle.std.specs.Prelude.{Result, Ok, Err, IfOk, OnErr}
-use Rattle.print.specs.Gather.{ROOM, NEWLINE, SPACE, Gathered, got, put, gather, Stopped, line_of, digit, hex, spaced, bytes_of}
+use Rattle.print.specs.Gather.{ROOM, NEWLINE, SPACE, Gathered, got, put, gather, Stopped, Unwritten, line_of, digit, hex, spaced, bytes_of}
 
 gather_both : (g : Gathered) (s t : List ℕ) → gather g (s ++ t) ≡ gather (gather g s) t
 unfolding gather
@@ -39,6 +40,13 @@ unfolding Stopped
 stopped_second g h s t out p w =
     let e : gather h w.0 ≡ gather g (s ++ w.0) = then_both g h (gather h w.0) s w.0 p refl in
     (s ++ w.0, w.1, ap (λ (x : List ℕ). s ++ x) w.2 ∙ sym (append_assoc s w.0 w.1), rw (← e) w.3, w.4 ∙ ap (λ (x : Gathered). x.held) e)
+
+pub unwritten_first : (g : Gathered) (s t out : List ℕ) → Stopped g s out → Unwritten g (s ++ t) out
+unwritten_first g s t out w = inl (stopped_first g s t out w)
+
+pub unwritten_second : (g h : Gathered) (s t out : List ℕ) → h ≡ gather g s → Unwritten h t out → Unwritten g (s ++ t) out
+unwritten_second g h s t out p w =
+    elim w [ inl q ↦ inl (stopped_second g h s t out p q) | inr e ↦ inr (e ∙ ap (λ (x : Gathered). x.held) (then_both g h (gather h t) s t p refl)) ]
 
 -- what is so where a call failed
 module _ {T E : Type 0} where

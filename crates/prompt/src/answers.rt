@@ -1,12 +1,13 @@
 // The answer lines.
-ghost use Rattle.std.specs.Prelude.{◌≡◌, ◌++◌};
-ghost use Rattle.print.specs.Gather.{line_of, spaced};
-ghost use Rattle.prompt.specs.Answers.{DONE};
+ghost use Rattle.std.specs.Prelude.{◌≡◌, [], ◌∷◌, ◌++◌, OnOk, OnErr};
+ghost use Rattle.print.specs.Gather.{got, line_of, spaced, Unwritten, NEWLINE};
+ghost use Rattle.prompt.specs.Answers.{DONE as DONE_TEXT};
 
 use line::step::Answer;
 use line::traffic::Outcome;
 use orders::check::Checked;
 use print::gather::{ROOM, end, number, spaced, text};
+use std::io;
 use table::calls::{Interrupting, Reading};
 use words::words::part;
 
@@ -92,13 +93,13 @@ const TEXTS: [u8; 734] = *b"QUIET\n\
     REFUSED 18 NAME\n\
     REFUSED 19 TWICE\n";
 
-pub fn tell(out: &mut [u8; ROOM], told: Told) {
+pub fn tell(rt: &impl Print, out: &mut [u8; ROOM], told: Told) -> io::Result<()> {
     let words = part(&TEXTS, b'\n', told.text);
-    let mut n = text(out, 0, words);
+    let mut n = text(rt, out, 0, words)?;
     if told.valued {
-        n = number(out, n, told.value);
+        n = number(rt, out, n, told.value)?;
     }
-    end(out, n);
+    end(rt, out, n)
 }
 
 fn worded(text: usize) -> Told {
@@ -189,10 +190,11 @@ pub fn error(mistake: Mistake) -> Told {
 }
 
 // DONE and bytes.
-pub fn hex(out: &mut [u8; ROOM], s: &[u8])
-    ensures { out.new ≡ line_of out.old (DONE ++ spaced s.now) }
+pub fn hex(rt: &impl Print, out: &mut [u8; ROOM], s: &[u8]) -> io::Result<()>
+    ensures ok { OnOk result (out.new ≡ line_of out.old (DONE_TEXT ++ spaced s.now)) }
+    ensures err { OnErr result (Unwritten (got out.old 0) ((DONE_TEXT ++ spaced s.now) ++ (NEWLINE ∷ [])) out.new) }
 {
-    let n = text(out, 0, b"DONE");
-    let n = spaced(out, n, s);
-    end(out, n);
+    let n = text(rt, out, 0, b"DONE")?;
+    let n = spaced(rt, out, n, s)?;
+    end(rt, out, n)
 }

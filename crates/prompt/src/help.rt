@@ -1,5 +1,6 @@
 // The words that a line may begin with.
 use print::gather::{ROOM, end, text};
+use std::io;
 
 const WORDS: [u8; 790] = *b"size LEN             the current length, 0 to 66400\n\
     poke AT HEX          stores bytes at AT\n\
@@ -20,7 +21,7 @@ const WORDS: [u8; 790] = *b"size LEN             the current length, 0 to 66400\
     help                 these words\n\
     DONE";
 
-pub fn help(out: &mut [u8; ROOM]) {
-    let n = text(out, 0, &WORDS);
-    end(out, n);
+pub fn help(rt: &impl Print, out: &mut [u8; ROOM]) -> io::Result<()> {
+    let n = text(rt, out, 0, &WORDS)?;
+    end(rt, out, n)
 }

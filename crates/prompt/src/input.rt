@@ -1,8 +1,9 @@
 // Standard input, line by line. What was read and not yet taken stands in a buffer.
-ghost use Rattle.std.specs.Prelude.{◌≡◌, ◌-◌, ◌≤◌, length, take, drop};
+ghost use Rattle.std.specs.Prelude.{◌≡◌, ◌-◌, ◌≤◌, length, take, drop, IfOk};
 ghost use Rattle.prompt.specs.Input.{LINE, Within};
 
-use libc::STDIN_FILENO;
+use std::io;
+use std::io::Read;
 
 // The buffer: a line of this many bytes or more does not fit it.
 pub const LINE: usize = 8192;
@@ -55,13 +56,25 @@ fn shift(lines: &mut [u8], from: usize, to: usize)
 }
 
 // One read, to what is behind the first `kept` bytes. It hands back where the bytes end.
-fn refill(lines: &mut [u8], kept: usize) -> usize
+fn refill(stdin: &mut impl Read, lines: &mut [u8], kept: usize) -> io::Result<usize>
     requires { kept ≤ length lines.old }
-    ensures end { (kept ≤ result) × (result ≤ length lines.old) }
+    ensures end { IfOk result (λ n. (kept ≤ n) × (n ≤ length lines.old)) }
     ensures bytes { take kept lines.new ≡ take kept lines.old }
 {
-    let got = libc::read(STDIN_FILENO, &mut lines[kept..]);
-    kept + io::count(got, &lines[kept..])
+    let got = stdin.read(&mut lines[kept..])?;
+    Ok(kept + got)
+}
+
+// Where the first newline of from .. to stands, or `to` where there is none.
+fn newline(lines: &[u8], from: usize, to: usize) -> usize
+    requires from_le_to { from ≤ to }
+    requires to_in_bounds { to ≤ length lines.now }
+    ensures { (from ≤ result) × (result ≤ to) }
+{
+    match lines[from..to].iter().position(|b| *b == b'\n') {
+        Some(n) => from + n,
+        None => to,
+    }
 }
 
 // A full buffer with no newline in it: what it holds of the line is dropped.
@@ -88,9 +101,9 @@ fn last(long: bool, to: usize) -> Input
 }
 
 // The next line is taken; the last one may lack its newline.
-pub fn next(lines: &mut [u8; LINE], input: Input) -> Input
+pub fn next(stdin: &mut impl Read, lines: &mut [u8; LINE], input: Input) -> io::Result<Input>
     requires { Within input }
-    ensures { Within result }
+    ensures { IfOk result Within }
 {
     let mut from = input.next;
     let mut to = input.to;
@@ -98,27 +111,27 @@ pub fn next(lines: &mut [u8; LINE], input: Input) -> Input
     // A proved loop has to end, and nothing says that a line does: no run uses up this count.
     let mut turns = u64::MAX;
     while 0 < turns {
-        let end = bytes::scan::find(lines, from, to, b'\n');
+        let end = newline(lines, from, to);
         if end < to {
-            return Input {
+            return Ok(Input {
                 over: false,
                 long,
                 from,
                 end,
                 next: end + 1,
                 to,
-            };
+            });
         }
         long = long | (to - from == LINE);
         from = kept_from(from, to);
         shift(lines, from, to);
         let kept = to - from;
         from = 0;
-        to = refill(lines, kept);
+        to = refill(stdin, lines, kept)?;
         if to == kept {
-            return last(long, to);
+            return Ok(last(long, to));
         }
         turns -= 1;
     }
-    last(long, to)
+    Ok(last(long, to))
 }

@@ -8,15 +8,23 @@ use bits::flags::{BROADCASTS, POR, RECON, RI, TA, TMA};
 use bits::way::Way;
 use print::gather::{ROOM, columns, end, number, text};
 use registers::regs::Regs;
+use std::io;
 use table::network::{HEADER, LOST, phase, row_from, rows, wide};
 use words::words::part;
 
 // The name of a flag that is set, by its place here.
-fn flag(out: &mut [u8; ROOM], n: usize, set: bool, place: usize) -> usize {
+fn flag(
+    rt: &impl Print,
+    out: &mut [u8; ROOM],
+    n: usize,
+    set: bool,
+    place: usize,
+) -> io::Result<usize> {
     if !set {
-        return n;
+        return Ok(n);
     }
     text(
+        rt,
         out,
         n,
         part(b" RI\n POR\n RECON\n TMA\n TA\n TTA\n TRI", b'\n', place),
@@ -24,14 +32,14 @@ fn flag(out: &mut [u8; ROOM], n: usize, set: bool, place: usize) -> usize {
 }
 
 // TTA and TRI are a chaining row's: in another no end waits to be cleared.
-fn flags(out: &mut [u8; ROOM], n: usize, g: Regs) -> usize {
-    let n = flag(out, n, g.status & RI != 0, 0);
-    let n = flag(out, n, g.status & POR != 0, 1);
-    let n = flag(out, n, g.status & RECON != 0, 2);
-    let n = flag(out, n, g.status & TMA != 0, 3);
-    let n = flag(out, n, g.status & TA != 0, 4);
-    let n = flag(out, n, g.transmit.uncleared(), 5);
-    flag(out, n, g.receive.uncleared(), 6)
+fn flags(rt: &impl Print, out: &mut [u8; ROOM], n: usize, g: Regs) -> io::Result<usize> {
+    let n = flag(rt, out, n, g.status & RI != 0, 0)?;
+    let n = flag(rt, out, n, g.status & POR != 0, 1)?;
+    let n = flag(rt, out, n, g.status & RECON != 0, 2)?;
+    let n = flag(rt, out, n, g.status & TMA != 0, 3)?;
+    let n = flag(rt, out, n, g.status & TA != 0, 4)?;
+    let n = flag(rt, out, n, g.transmit.uncleared(), 5)?;
+    flag(rt, out, n, g.receive.uncleared(), 6)
 }
 
 // The digit of a page, in the low bits of a waiting entry.
@@ -54,68 +62,70 @@ fn cells(g: Regs) -> [u8; 14] {
 }
 
 // B behind a page that waits to be filled, where broadcasts are wanted.
-fn wanted(out: &mut [u8; ROOM], n: usize, entry: u8) -> usize {
+fn wanted(rt: &impl Print, out: &mut [u8; ROOM], n: usize, entry: u8) -> io::Result<usize> {
     if entry & BROADCASTS == 0 {
-        return n;
+        return Ok(n);
     }
-    text(out, n, b"B")
+    text(rt, out, n, b"B")
 }
 
 // The rest of the column RX: a second page behind the first.
-fn receives(out: &mut [u8; ROOM], n: usize, g: Regs) -> usize {
+fn receives(rt: &impl Print, out: &mut [u8; ROOM], n: usize, g: Regs) -> io::Result<usize> {
     if !g.receive.two(Way::Receive) {
         let mut cells = *b"  ";
         cells[0] = choose(g.receive.oldest & BROADCASTS != 0, b'B', b' ');
-        return text(out, n, &cells);
+        return text(rt, out, n, &cells);
     }
-    let n = wanted(out, n, g.receive.oldest);
+    let n = wanted(rt, out, n, g.receive.oldest)?;
     let mut cells = *b", ";
     cells[1] = page(g.receive.second);
-    let n = text(out, n, &cells);
-    wanted(out, n, g.receive.second)
+    let n = text(rt, out, n, &cells)?;
+    wanted(rt, out, n, g.receive.second)
 }
 
-fn row(out: &mut [u8; ROOM], k: usize, g: Regs) {
-    let n = columns(out, 0, k, wide(g.id), wide(g.nid));
-    let n = text(out, n, &cells(g));
-    let n = receives(out, n, g);
-    let n = flags(out, n, g);
-    end(out, n);
+fn row(rt: &impl Print, out: &mut [u8; ROOM], k: usize, g: Regs) -> io::Result<()> {
+    let n = columns(rt, out, 0, k, wide(g.id), wide(g.nid))?;
+    let n = text(rt, out, n, &cells(g))?;
+    let n = receives(rt, out, n, g)?;
+    let n = flags(rt, out, n, g)?;
+    end(rt, out, n)
 }
 
 // The phase, and who holds the token in it.
-fn holder(out: &mut [u8; ROOM], phase: u8, row: usize) -> usize {
+fn holder(rt: &impl Print, out: &mut [u8; ROOM], phase: u8, row: usize) -> io::Result<usize> {
     let n = text(
+        rt,
         out,
         0,
         part(b"LOST, nobody\nPASS, row\nTAKEN, row", b'\n', wide(phase)),
-    );
+    )?;
     if phase == LOST {
-        return n;
+        return Ok(n);
     }
-    number(out, n, row)
+    number(rt, out, n, row)
 }
 
 // A line for each of the first n rows.
-fn table(out: &mut [u8; ROOM], net: &[u8], n: usize)
+fn table(rt: &impl Print, out: &mut [u8; ROOM], net: &[u8], n: usize) -> io::Result<()>
     requires { row_start net.now n ≤ length net.now }
 {
     let mut a = HEADER;
     for k in 0..n {
         let card = row_from(net, a);
-        row(out, k, card::row::load(card));
+        row(rt, out, k, card::row::load(card))?;
         a += card.len();
     }
+    Ok(())
 }
 
 // The rows of a network that SHAPE does not refuse.
-pub fn show(out: &mut [u8; ROOM], net: &[u8])
+pub fn show(rt: &impl Print, out: &mut [u8; ROOM], net: &[u8]) -> io::Result<()>
     requires { shape net.now ≡ true }
 {
-    let n = text(out, 0, b" ROW  ID NID  LINE  TX   RX  FLAGS");
-    end(out, n);
-    table(out, net, rows(net));
-    let n = holder(out, phase(net), table::network::holder(net));
-    let n = text(out, n, b" holds\nDONE");
-    end(out, n);
+    let n = text(rt, out, 0, b" ROW  ID NID  LINE  TX   RX  FLAGS")?;
+    end(rt, out, n)?;
+    table(rt, out, net, rows(net))?;
+    let n = holder(rt, out, phase(net), table::network::holder(net))?;
+    let n = text(rt, out, n, b" holds\nDONE")?;
+    end(rt, out, n)
 }

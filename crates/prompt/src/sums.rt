@@ -2,8 +2,6 @@
 ghost use Rattle.std.specs.Prelude.{◌≡◌, ◌*◌, ◌%◌};
 ghost use Rattle.prompt.specs.Sums.{BASIS, PRIME, sum_after};
 
-use std::num::wrapping_add_u64;
-
 const BASIS: u64 = 0xcbf29ce484222325;
 
 // The prime is 2^40 + 435.
@@ -15,7 +13,7 @@ fn times_prime(h: u64) -> u64
 {
     let high = ((h >> 32) * LOW) << 32;
     let low = (h % 4294967296) * LOW;
-    wrapping_add_u64(h << 40, wrapping_add_u64(high, low))
+    (h << 40).wrapping_add(high.wrapping_add(low))
 }
 
 fn wide(b: u8) -> u64
@@ -24,6 +22,7 @@ fn wide(b: u8) -> u64
     b as u64
 }
 
+#[tactic(auto, using(crate::proofs::Fnv::sum_more, crate::proofs::Fnv::sum_end))]
 pub fn sum(s: &[u8]) -> u64
     ensures { result ≡ sum_after BASIS s.now }
 {

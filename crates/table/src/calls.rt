@@ -219,6 +219,7 @@ pub fn fresh(net: &mut [u8], n: usize) -> u8
 pub const LONGEST: usize = HEADER + ROW_BYTES * ROWS;
 
 // The length of a network of n rows as the fresh call makes them.
+#[tactic(auto, unfolding(crate::specs::Calls::exact_length))]
 pub fn exact_length(n: usize) -> usize
     requires { n < 256 }
     ensures { result ≡ exact_length n }

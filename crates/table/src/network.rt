@@ -110,6 +110,7 @@ pub fn put_regs(net: &mut [u8], k: usize, g: Regs)
 }
 
 // The phase and the holder are written.
+#[tactic(auto, unfolding(crate::specs::Network::turned))]
 pub fn turn(net: &mut [u8], phase: u8, holder: u8)
     requires { header_bytes ≤ length net.old }
     ensures { net.new ≡ turned net.old phase holder }
@@ -189,6 +190,7 @@ fn header_fits(net: &[u8]) -> bool
         & rows_end(net, n)
 }
 
+#[tactic(auto, unfolding(crate::specs::Network::rows_fit))]
 fn rows_fit(net: &[u8], n: usize) -> bool
     requires { row_start net.now n ≤ length net.now }
     ensures { result ≡ rows_fit net.now n }
@@ -208,6 +210,7 @@ fn rows_fit(net: &[u8], n: usize) -> bool
 
 // The IDs of the rows on line differ pairwise: none has the ID of an on-line row before it. The rows are compared in place, since
 // a handheld has little stack (C-14).
+#[tactic(auto, unfolding(crate::specs::Network::ids_differ))]
 fn ids_differ(net: &[u8], n: usize) -> bool
     requires { row_start net.now n ≤ length net.now }
     ensures { result ≡ ids_differ net.now n }
@@ -226,6 +229,7 @@ fn ids_differ(net: &[u8], n: usize) -> bool
     true
 }
 
+#[tactic(auto, unfolding(crate::specs::Network::holder_fits))]
 fn holder_fits(net: &[u8]) -> bool
     requires header_bytes_in_bounds { header_bytes ≤ length net.now }
     requires net_in_bounds { row_start net.now (rows net.now) ≤ length net.now }
@@ -242,6 +246,7 @@ fn holder_fits(net: &[u8]) -> bool
 }
 
 // SHAPE does not refuse the network. Any bytes of any length may be asked about.
+#[tactic(auto, unfolding(crate::specs::Network::shape))]
 pub fn shape(net: &[u8]) -> bool
     ensures { result ≡ shape net.now }
 {

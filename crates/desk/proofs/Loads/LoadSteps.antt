@@ -6,7 +6,6 @@ use mathlib.Core.List.{List}
 use Prim.Native.Nat.{ℕ, zero, suc, ◌+◌, ◌≤◌, ◌<◌}
 use native.Mathlib.Numerals.{add-one}
 use native.Mathlib.Omega.{arith}
-use lib.Bits.{bit_and}
 use lib.ListN.{length}
 use borrow.Author.Tests.{eq-eqb, ne_eqb}
 use Rattle.bits.specs.Words.{pick, has}
@@ -33,13 +32,8 @@ pub at_place : (net : List ℕ) (k : ℕ) → k < rows net → (x y : List ℕ) 
 at_place net k l x y e h = rw e (h.shaped, omega (arith, h.count))
 
 -- ---- a row
--- a write that is made where some bit of f is set, as the code tests it
-module _ (f flags : ℕ) (x y new : List ℕ) where
-  pub is_made : (bit_and flags f ≡ 0 → ⊥) → new ≡ x → new ≡ pick (has f flags) x y
-  is_made n e = e ∙ rw (ne_eqb (bit_and flags f) 0 n)
-
-  pub is_skipped : bit_and flags f ≡ 0 → new ≡ y → new ≡ pick (has f flags) x y
-  is_skipped z e = e ∙ rw (eq-eqb (bit_and flags f) 0 z)
+pub rows_write : (net : List ℕ) (s : shape net ≡ true) (k : ℕ) → k < rows net → (r v : ℕ) → rows (net_after_write net k r v) ≡ rows net
+rows_write net s k l r v = beside_count (write_beside net s k l r v)
 
 module _ (net : List ℕ) (k : ℕ) (p : (shape net ≡ true) × (k < rows net)) where
   writable_write : (a : List ℕ) → Writable net a → (r v : ℕ) → Writable net (net_after_write a k r v)

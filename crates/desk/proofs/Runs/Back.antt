@@ -156,7 +156,7 @@ module _ (net : List ℕ) (s : shape net ≡ true) (b : Rams net) (lost : phase 
   -- ---- what is counted of the lap
   told : map (seen net) (answers (suc (suc (length way))) net) ≡ Spoke ∷ (way ++ (Took h ∷ []))
   told =
-      rw (answers_first, answers_more, map-append, start.answer, run.told, end.told)
+      rw (answers_first, answers_more, map-append (seen net), start.answer, run.told, end.told)
 
   pub whole : map (seen net) (answers (lap_steps net) net) ≡ Spoke ∷ (way ++ (Took h ∷ []))
   whole = rw (lap_steps_lem, ← size) told

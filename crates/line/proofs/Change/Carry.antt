@@ -1,23 +1,23 @@
--- A packet at one row: there is room for it where it is stored, and what the code leaves is what the definition says.
+-- A packet at one row: there is room for it where it is stored.
 -- Assumes nothing.
 use mathlib.Core.Path.{◌≡◌, sym, ◌∙◌}
-use mathlib.Core.Bool.{Bool, true, false, not, ◌&&◌, ◌||◌}
+use mathlib.Core.Bool.{Bool, true, not, ◌&&◌, ◌||◌}
 use mathlib.Core.List.{List}
 use Prim.Native.Nat.{ℕ, ◌+◌, ◌≤◌, ◌<◌}
 use lib.Dec.{eqb}
 use lib.ListN.{length}
 use Rattle.registers.specs.declared.regs.Regs.{Regs}
 use Rattle.card.specs.declared.packets.Packet.{Packet}
-use Rattle.card.specs.Row.{Whole, regs_of, put_regs, well_formed}
-use Rattle.card.specs.Packets.{page_at, page_bytes, stored}
-use Rattle.registers.specs.Events.{received, receiving, takes_broadcasts, receive_page}
+use Rattle.card.specs.Row.{Whole, regs_of, well_formed}
+use Rattle.card.specs.Packets.{page_at, page_bytes}
+use Rattle.registers.specs.Events.{receiving, takes_broadcasts, receive_page}
 use Rattle.card.specs.Packets.{storable}
 use Rattle.bits.proofs.Words.Bools.{and_left, and_right}
 use Rattle.card.proofs.Rows.Bytes.{well_fit}
 use Rattle.registers.proofs.Values.Fits.{fit_rules}
 use Rattle.registers.proofs.Values.Ends.{receive_page_small}
 use Rattle.card.proofs.Pages.Waiting.{receive_room}
-use Rattle.line.specs.Traffic.{takes, carried_row}
+use Rattle.line.specs.Traffic.{takes}
 
 module _ (r : List ℕ) (l : Whole r) (w : well_formed r ≡ true) (h to : ℕ) (broadcast : Bool) (k : Packet) (j : ℕ) (g : Regs) (p : g ≡ regs_of r) (t a b : Bool)
     (et : t ≡ takes_broadcasts g) (ea : a ≡ receiving g) (eb : b ≡ storable g k.shape) where
@@ -41,10 +41,3 @@ module _ (r : List ℕ) (l : Whole r) (w : well_formed r ≡ true) (h to : ℕ) 
             (and_right (takes h to broadcast j (regs_of r)) (receiving (regs_of r)) (and_left taken (storable (regs_of r) k.shape) z))
             k.shape (and_right taken (storable (regs_of r) k.shape) z),
       )
-
-  pub kept : (takes_it_lem && a && b) ≡ false → r ≡ carried_row h to broadcast k j r
-  kept n = rw (sym same ∙ n)
-
-  pub laid_in : (takes_it_lem && a && b) ≡ true → (q : ℕ) → q ≡ receive_page g → (m : List ℕ) → m ≡ stored r (page_at r q) k → (v : Regs) → v ≡ regs_of m
-      → (i : Regs) → i ≡ received v → (s : List ℕ) → s ≡ put_regs m i → s ≡ carried_row h to broadcast k j r
-  laid_in y q eq m em v ev i ei s es = rw (sym same ∙ y, es, ei, ev, em, eq, p)

@@ -1,16 +1,15 @@
 -- The public step: its refusals, and the step of a network that SHAPE does not refuse.
 -- Assumes nothing.
 use mathlib.Core.Path.{◌≡◌, refl, sym, ◌∙◌}
-use mathlib.Core.Bool.{Bool, true, not}
+use mathlib.Core.Bool.{true}
 use mathlib.Core.List.{List}
 use mathlib.Core.Logic.{⊎_elim}
 use Prim.Native.Nat.{ℕ, ◌<◌}
 use native.Mathlib.Omega.{arith}
-use borrow.Author.Tests.{eq-eqb, ne_eqb, eqb-true, eqb-false, not-false}
+use borrow.Author.Tests.{eq-eqb, eqb-true, eqb-false, not-false}
 use lib.Dec.{eqb, ltb}
 use Rattle.line.specs.declared.step.Answer.{Answer}
-use Rattle.line.specs.declared.step.Answer.TheVariants.{Refused}
-use Rattle.told.specs.Numbers.{DONE, SHAPE, VALUE, refuse}
+use Rattle.told.specs.Numbers.{SHAPE}
 use Rattle.bits.proofs.Words.Bools.{cases, pick_of}
 use Rattle.told.proofs.Told.Smallest.{none_refuses}
 use Rattle.table.specs.Network.{rows, phase, holder, LOST, PASS, top_id, shape}
@@ -25,19 +24,10 @@ held_row net s =
     (cases (eqb (phase net) LOST))
 
 module _ (net : List ℕ) (fault : ℕ) where
-  -- SHAPE and VALUE, as the code asks them
-  pub number_asked : (s : Bool) → s ≡ shape net → (n : ℕ) → n ≡ refuse DONE SHAPE (not s) → (k : ℕ) → k ≡ refuse n VALUE (ltb 3 fault) → k ≡ step_number net fault
-  unfolding step_number step_refusals
-  number_asked s e n en k ek = ek ∙ rw (en, e)
-
   module _ (k : ℕ) (number_is : k ≡ step_number net fault) where
     pub step_shape : k ≡ 0 → shape net ≡ true
     unfolding step_number step_refusals
     step_shape z = not-false (shape net) (none_refuses (step_refusals net fault) refl (sym number_is ∙ z) SHAPE)
-
-    pub refuses : (k ≡ 0 → ⊥) → (Refused k ≡ (step net fault).answer) × (net ≡ (step net fault).after)
-    unfolding step
-    refuses n = (rw (← number_is, ne_eqb _ _ n), rw (← number_is, ne_eqb _ _ n))
 
     pub steps : k ≡ 0 → (a : Answer) (y : List ℕ) → (a ≡ (step_turn net fault).answer) × (y ≡ (step_turn net fault).after)
         → (a ≡ (step net fault).answer) × (y ≡ (step net fault).after)

@@ -8,7 +8,7 @@ use native.Mathlib.Omega.{arith}
 use lib.Dec.{eqb, leb, ltb, lit<}
 use lib.ListN.{length, get_or, take, drop, length-drop}
 use lib.Seq.{length-take-le, get_or-take, get_or-drop, ext_get_or}
-use borrow.Author.Tests.{eqb-true, eq-eqb, ltb-true, lt-ltb, leb-true, le-leb, not-false}
+use borrow.Author.Tests.{eqb-true, eq-eqb, ltb-true, lt-ltb, leb-true, le-leb}
 use Rattle.card.specs.Row.{zeros}
 use Rattle.bits.proofs.Words.Bools.{holds}
 use Rattle.table.specs.Rows.{header_bytes, row_start, rows_end}
@@ -82,5 +82,5 @@ unfolding header_fits
 header_asked net n d p q z e a f = rw (f, d, q, e)
 
 -- what the code learns of the length where it does not refuse the header
-pub header_told : (net : List ℕ) (b : Bool) → b ≡ header_fits net → not b ≡ false → row_start net (rows net) ≤ length net
-header_told net b e f = omega (arith, header_length net (sym e ∙ not-false b f))
+pub header_told : (net : List ℕ) (b : Bool) → b ≡ header_fits net → b ≡ true → row_start net (rows net) ≤ length net
+header_told net b e f = omega (arith, header_length net (sym e ∙ f))

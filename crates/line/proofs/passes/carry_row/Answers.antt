@@ -1,0 +1,21 @@
+use Rattle.std.proofs.Common.{arith}
+use Rattle.card.proofs.Rows.Sizes.{whole_registers}
+use Rattle.line.proofs.Change.Carry.{room}
+use Rattle.line.proofs.passes.carry_row.Goals as goal
+
+pub load-g-requires : goal.load-g-requires
+load-g-requires c = whole_registers _ c.requires.whole
+
+pub store_packet-requires : goal.store_packet-requires
+store_packet-requires c =
+    let a = c.args in
+    let e = room _ c.requires.whole c.requires.row_value a.h a.to a.broadcast a.packet a.k _ c.load-g.ensures _ _ _ c.takes_broadcasts.ensures c.receiving.ensures c.storable.ensures
+    c.if-takes-receiving.true _ c.receive_page.ensures in
+    record { whole = c.requires.whole; page_bound = e.0; shape_in_bounds = e.1 }
+
+-- the row is as long as it was
+pub load-requires : goal.load-requires
+load-requires c = omega (arith, c.store_packet.auto.row, whole_registers _ c.requires.whole)
+
+pub store-requires : goal.store-requires
+store-requires c = omega (arith, c.store_packet.auto.row, whole_registers _ c.requires.whole)

@@ -1,0 +1,14 @@
+use Rattle.table.specs.Calls.{net_read_number}
+use Rattle.table.proofs.Access.Placed.{at_part, placed_refused, placed_asked}
+use Rattle.table.proofs.calls.read_number.Goals as goal
+
+pub returns-then-number-ne-DONE : goal.returns-then-number-ne-DONE
+unfolding net_read_number
+returns-then-number-ne-DONE c = placed_refused _ _ _ c.place_number-number.ensures _ c.if-number-ne-DONE.true
+
+pub regs_at-requires : goal.regs_at-requires
+regs_at-requires c = (at_part _ _ _ c.place_number-number.ensures c.if-number-ne-DONE.false).1
+
+pub returns : goal.returns
+unfolding net_read_number
+returns c = placed_asked _ _ _ c.place_number-number.ensures _ c.if-number-ne-DONE.false _ (simp c.regs_at.ensures at c.read_number.ensures)

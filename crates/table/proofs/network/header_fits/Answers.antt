@@ -1,0 +1,5 @@
+use Rattle.table.proofs.Rows.Headers.{header_asked}
+use Rattle.table.proofs.network.header_fits.Goals as goal
+
+pub returns : goal.returns
+returns c = header_asked _ _ c.rows-n.ensures.0 _ c.phase.ensures _ c.all_zero.ensures _ c.rows_end.ensures
