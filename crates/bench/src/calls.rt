@@ -11,6 +11,7 @@ use desk::laps::{Taker, Walked};
 use orders::check::Checked;
 use print::gather::{ROOM, end, number, text};
 use prompt::answers::{numbered, tell};
+use std::io;
 use table::network::{ROWS, regs_at, shape};
 use told::numbers::{DONE, REGISTER, SHAPE, VALUE, refuse};
 
@@ -51,7 +52,7 @@ pub(crate) fn load(net: &mut [u8], digits: &[u8]) -> Checked
     ensures bytes { net.new ≡ net_after_load (unhex digits.now) net.old }
 {
     let n = digits.len() / 2;
-    let mut order = io::buffer();
+    let mut order = [0u8; 4096];
     words::hex::unhex(digits, &mut order[0..n]);
     desk::loading::load(&order[0..n], net)
 }
@@ -80,41 +81,51 @@ pub(crate) fn write(net: &mut [u8], row: usize, register: usize, value: usize) -
 }
 
 // The ID, the row and the invitations of a taker.
-fn taker(out: &mut [u8; ROOM], n: usize, taker: Taker) -> usize {
-    let n = number(out, n, taker.id as usize);
-    let n = number(out, n, taker.row as usize);
-    number(out, n, taker.invitations as usize)
+fn taker(rt: &impl Print, out: &mut [u8; ROOM], n: usize, taker: Taker) -> io::Result<usize> {
+    let n = number(rt, out, n, taker.id as usize)?;
+    let n = number(rt, out, n, taker.row as usize)?;
+    number(rt, out, n, taker.invitations as usize)
 }
 
-fn takers(out: &mut [u8; ROOM], n: usize, list: [Taker; ROWS], count: usize) -> usize
+fn takers(
+    rt: &impl Print,
+    out: &mut [u8; ROOM],
+    n: usize,
+    list: [Taker; ROWS],
+    count: usize,
+) -> io::Result<usize>
     requires { count ≤ row_limit }
 {
     let mut n = n;
     for i in 0..count {
-        n = taker(out, n, list[i]);
+        n = taker(rt, out, n, list[i])?;
     }
-    n
+    Ok(n)
 }
 
 // DONE and the total, and the takers.
-fn lapped(out: &mut [u8; ROOM], walked: Walked)
+fn lapped(rt: &impl Print, out: &mut [u8; ROOM], walked: Walked) -> io::Result<()>
     requires { walked.n ≤ row_limit }
 {
-    let n = text(out, 0, b"DONE");
-    let n = number(out, n, walked.lapped.total as usize);
+    let n = text(rt, out, 0, b"DONE")?;
+    let n = number(rt, out, n, walked.lapped.total as usize)?;
     let list = walked.list;
-    let n = takers(out, n, list, walked.n);
-    end(out, n);
+    let n = takers(rt, out, n, list, walked.n)?;
+    end(rt, out, n)
 }
 
-pub(crate) fn lap(out: &mut [u8; ROOM], net: &mut [u8], room: usize)
+pub(crate) fn lap(
+    rt: &impl Print,
+    out: &mut [u8; ROOM],
+    net: &mut [u8],
+    room: usize,
+) -> io::Result<()>
     ensures { net.new ≡ net_after_lap net.old room }
 {
     let walked = desk::laps::walk(net, room);
     let refusal = walked.lapped.number;
     if refusal != 0 {
-        tell(out, numbered(refusal));
-        return;
+        return tell(rt, out, numbered(refusal));
     }
-    lapped(out, walked);
+    lapped(rt, out, walked)
 }

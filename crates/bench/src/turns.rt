@@ -1,5 +1,5 @@
 // A line is answered.
-ghost use Rattle.std.specs.Prelude.{◌≡◌, ◌≤◌, length};
+ghost use Rattle.std.specs.Prelude.{◌≡◌, ◌≤◌, length, IfOk};
 ghost use Rattle.words.specs.Hex.{unhex};
 ghost use Rattle.prompt.specs.Input.{LINE};
 ghost use Rattle.bench.specs.Calls.{poked};
@@ -14,17 +14,23 @@ use crate::requests::{
 use print::gather::ROOM;
 use prompt::answers;
 use prompt::answers::{Mistake, Told, tell};
+use std::io;
 use words::words::word;
 
 // The bytes that may be lent.
 pub(crate) const NET: usize = 66400;
 
-fn peek(out: &mut [u8; ROOM], net: &[u8], at: usize, count: usize) {
+fn peek(
+    rt: &impl Print,
+    out: &mut [u8; ROOM],
+    net: &[u8],
+    at: usize,
+    count: usize,
+) -> io::Result<()> {
     if !calls::inside(net, at, count) {
-        tell(out, answers::error(Mistake::Outside));
-        return;
+        return tell(rt, out, answers::error(Mistake::Outside));
     }
-    answers::hex(out, &net[at..at + count]);
+    answers::hex(rt, out, &net[at..at + count])
 }
 
 fn poke(net: &mut [u8], at: usize, digits: &[u8]) -> Told
@@ -37,41 +43,56 @@ fn poke(net: &mut [u8], at: usize, digits: &[u8]) -> Told
     }
 }
 
-fn sum(out: &mut [u8; ROOM], net: &[u8]) {
-    let n = print::gather::text(out, 0, b"DONE ");
-    let n = print::gather::sixteen(out, n, prompt::sums::sum(net));
-    print::gather::end(out, n);
+fn sum(rt: &impl Print, out: &mut [u8; ROOM], net: &[u8]) -> io::Result<()> {
+    let n = print::gather::text(rt, out, 0, b"DONE ")?;
+    let n = print::gather::sixteen(rt, out, n, prompt::sums::sum(net))?;
+    print::gather::end(rt, out, n)
 }
 
-fn data(out: &mut [u8; ROOM], net: &[u8], row: usize, page: usize) {
+fn data(
+    rt: &impl Print,
+    out: &mut [u8; ROOM],
+    net: &[u8],
+    row: usize,
+    page: usize,
+) -> io::Result<()> {
     let number = table::calls::data_number(net, row, page);
     if number != 0 {
-        tell(out, answers::numbered(number));
-        return;
+        return tell(rt, out, answers::numbered(number));
     }
-    answers::hex(out, table::calls::page_data(net, row, page));
+    answers::hex(rt, out, table::calls::page_data(net, row, page))
 }
 
-fn show(out: &mut [u8; ROOM], net: &[u8]) {
+fn show(rt: &impl Print, out: &mut [u8; ROOM], net: &[u8]) -> io::Result<()> {
     let number = calls::shape_number(net);
     if number != 0 {
-        tell(out, answers::numbered(number));
-        return;
+        return tell(rt, out, answers::numbered(number));
     }
-    prompt::show::show(out, net);
+    prompt::show::show(rt, out, net)
 }
 
 // The calls that change nothing.
-fn look(out: &mut [u8; ROOM], net: &[u8], call: usize, a: usize, b: usize) {
+fn look(
+    rt: &impl Print,
+    out: &mut [u8; ROOM],
+    net: &[u8],
+    call: usize,
+    a: usize,
+    b: usize,
+) -> io::Result<()> {
     match call {
-        SIZE => tell(out, answers::numbered(0)),
-        PEEK => peek(out, net, a, b),
-        SUM => sum(out, net),
-        CHECK => tell(out, answers::numbered(calls::shape_number(net))),
-        INTERRUPT => tell(out, answers::interrupting(table::calls::interrupt(net, a))),
-        DATA => data(out, net, a, b),
-        SHOW => show(out, net),
-        _ => prompt::help::help(out),
+        SIZE => tell(rt, out, answers::numbered(0)),
+        PEEK => peek(rt, out, net, a, b),
+        SUM => sum(rt, out, net),
+        CHECK => tell(rt, out, answers::numbered(calls::shape_number(net))),
+        INTERRUPT => tell(
+            rt,
+            out,
+            answers::interrupting(table::calls::interrupt(net, a)),
+        ),
+        DATA => data(rt, out, net, a, b),
+        SHOW => show(rt, out, net),
+        _ => prompt::help::help(rt, out),
     }
 }
 
@@ -102,26 +123,32 @@ fn on_row(net: &mut [u8], q: Call) -> Told
 }
 
 // The calls on the line: `step` and `lap`.
-fn on_steps(out: &mut [u8; ROOM], net: &mut [u8], q: Call)
+fn on_steps(rt: &impl Print, out: &mut [u8; ROOM], net: &mut [u8], q: Call) -> io::Result<()>
     ensures { net.new ≡ net_after_steps q net.old }
 {
     if q.call == STEP {
-        tell(out, answers::step(line::step::step(net, q.a)));
+        tell(rt, out, answers::step(line::step::step(net, q.a)))
     } else {
-        calls::lap(out, net, q.a);
+        calls::lap(rt, out, net, q.a)
     }
 }
 
-fn call(out: &mut [u8; ROOM], net: &mut [u8], line: &[u8], q: Call)
+fn call(
+    rt: &impl Print,
+    out: &mut [u8; ROOM],
+    net: &mut [u8],
+    line: &[u8],
+    q: Call,
+) -> io::Result<()>
     requires { length line.now ≤ LINE }
     ensures { net.new ≡ net_after_call q line.now net.old }
 {
     let tens = q.call / 10;
     match tens {
-        0 => look(out, net, q.call, q.a, q.b),
-        1 => tell(out, on_bytes(net, line, q)),
-        2 => tell(out, on_row(net, q)),
-        _ => on_steps(out, net, q),
+        0 => look(rt, out, net, q.call, q.a, q.b),
+        1 => tell(rt, out, on_bytes(net, line, q)),
+        2 => tell(rt, out, on_row(net, q)),
+        _ => on_steps(rt, out, net, q),
     }
 }
 
@@ -135,25 +162,26 @@ fn size_after(q: Call, size: usize) -> usize
 // A line, of which `long` says that it did not fit, is answered, with the first `size` bytes lent. It hands back the
 // current length.
 pub(crate) fn turn(
+    rt: &impl Print,
     net: &mut [u8],
     size: usize,
     line: &[u8],
     long: bool,
     out: &mut [u8; ROOM],
-) -> usize
+) -> io::Result<usize>
     requires { (size ≤ NET) × (length net.old ≡ NET) × (length line.now ≤ LINE) }
-    ensures size { (result ≡ size_after_line long line.now size) × (result ≤ NET) }
+    ensures size { IfOk result (λ n. (n ≡ size_after_line long line.now size) × (n ≤ NET)) }
     ensures bytes { net.new ≡ net_after_line long line.now size net.old }
 {
     let request = asked(long, line);
     match request {
         Request::Error(mistake) => {
-            tell(out, answers::error(mistake));
-            size
+            tell(rt, out, answers::error(mistake))?;
+            Ok(size)
         }
         Request::Asks(q) => {
-            call(out, &mut net[0..size], line, q);
-            size_after(q, size)
+            call(rt, out, &mut net[0..size], line, q)?;
+            Ok(size_after(q, size))
         }
     }
 }

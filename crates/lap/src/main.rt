@@ -5,15 +5,16 @@
 
 mod clerk;
 
-ghost use Rattle.std.specs.Prelude.{◌≡◌, length, ◌+◌, ◌*◌, ◌≤◌};
+ghost use Rattle.std.specs.Prelude.{◌≡◌, length, ◌+◌, ◌*◌, ◌≤◌, IfOk};
 ghost use Rattle.table.specs.Network.{row_limit};
 ghost use Rattle.table.specs.Calls.{exact_length};
 ghost use Rattle.desk.specs.Lap.{lapped, net_after_lap, list_after_lap, nobody};
 ghost use Rattle.orders.specs.Form.{record_bytes};
 
 use desk::laps::{Lapped, Taker, nobody};
-use libc::STDIN_FILENO;
 use orders::form::{RECORD, name_at, records};
+use std::io;
+use std::io::{Read, Stderr};
 use table::calls::{LONGEST, exact_length};
 use table::network::ROWS;
 
@@ -38,42 +39,43 @@ fn lap_list(net: &mut [u8]) -> Listed
     Listed { lapped, list }
 }
 
-fn refuse(number: u8, bad: usize) {
-    print::text(b"REFUSED");
-    print::number(number as usize);
+fn refuse(rt: &impl Print, number: u8, bad: usize) -> io::Result<()> {
+    print::text(rt, b"REFUSED")?;
+    print::number(rt, number as usize)?;
     if bad != 0 {
-        print::number(bad);
+        print::number(rt, bad)?;
     }
-    print::text(b"\n");
+    print::text(rt, b"\n")
 }
 
 // A taker's line: its ID, its row from 0, the invitations since the holder before, its station.
-fn taker(order: &[u8], t: Taker) {
-    print::decimal(t.id as usize);
-    print::number(t.row as usize);
-    print::number(t.invitations as usize);
-    print::text(b" ");
-    print::text(name_at(order, t.row as usize));
-    print::text(b"\n");
+fn taker(rt: &impl Print, order: &[u8], t: Taker) -> io::Result<()> {
+    print::decimal(rt, t.id as usize)?;
+    print::number(rt, t.row as usize)?;
+    print::number(rt, t.invitations as usize)?;
+    print::text(rt, b" ")?;
+    print::text(rt, name_at(order, t.row as usize))?;
+    print::text(rt, b"\n")
 }
 
 // The n records of the order are n nodes on line: the first n entries of the list are their takers.
-fn takers(order: &[u8], l: Listed, n: usize)
+fn takers(rt: &impl Print, order: &[u8], l: Listed, n: usize) -> io::Result<()>
     requires { n ≤ row_limit }
 {
-    print::text(b"LAP");
-    print::number(n);
-    print::text(b" NODES");
-    print::number(l.lapped.total as usize);
-    print::text(b" INVITATIONS\n");
+    print::text(rt, b"LAP")?;
+    print::number(rt, n)?;
+    print::text(rt, b" NODES")?;
+    print::number(rt, l.lapped.total as usize)?;
+    print::text(rt, b" INVITATIONS\n")?;
     let list = l.list;
     for i in 0..n {
-        taker(order, list[i]);
+        taker(rt, order, list[i])?;
     }
+    Ok(())
 }
 
 // The order is loaded into a network of its length, which is lent, and its lap is run.
-fn answer(order: &[u8], net: &mut [u8])
+fn answer(rt: &impl Print, err: Stderr, order: &[u8], net: &mut [u8]) -> io::Result<()>
     requires order_len_bound { length order.now ≤ record_bytes * row_limit + 1 }
     requires row_limit_in_bounds { exact_length row_limit ≤ length net.old }
 {
@@ -81,23 +83,36 @@ fn answer(order: &[u8], net: &mut [u8])
     let size = exact_length(n);
     let checked = desk::loading::load(order, &mut net[0..size]);
     if checked.number != 0 {
-        refuse(checked.number, checked.bad);
-        clerk::unfit(order, checked);
-        return;
+        refuse(rt, checked.number, checked.bad)?;
+        return clerk::unfit(err, order, checked);
     }
     let l = lap_list(&mut net[0..size]);
     if l.lapped.number != 0 {
         // An order that was loaded is refused for one record alone, since the list has room (`TheLoading.lap`).
-        refuse(l.lapped.number, 0);
-        clerk::alone();
-        return;
+        refuse(rt, l.lapped.number, 0)?;
+        return clerk::alone(err);
     }
-    takers(order, l, n);
+    takers(rt, order, l, n)
 }
 
-fn main() {
+// Reads until the buffer is full or the input ends. It hands back how many bytes were read.
+fn read_full(stdin: &mut impl Read, buffer: &mut [u8]) -> io::Result<usize>
+    ensures { IfOk result (λ n. n ≤ length buffer.new) }
+{
+    let mut done = 0;
+    while done < buffer.len() {
+        let n = stdin.read(&mut buffer[done..])?;
+        if n == 0 {
+            break;
+        }
+        done += n;
+    }
+    Ok(done)
+}
+
+fn main(rt: HostRuntime) -> io::Result<()> {
     let mut order = [0u8; ORDER];
     let mut net = [0u8; LONGEST];
-    let read = io::read_full(STDIN_FILENO, &mut order);
-    answer(&order[0..read], &mut net);
+    let read = read_full(&mut rt.stdin(), &mut order)?;
+    answer(&rt, rt.stderr(), &order[0..read], &mut net)
 }

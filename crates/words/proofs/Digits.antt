@@ -1,6 +1,6 @@
 -- Decimal digits, one by one.
 -- Assumes nothing.
-use mathlib.Core.Path.{◌≡◌, sym, ap, ◌∙◌}
+use mathlib.Core.Path.{◌≡◌, ap, ◌∙◌}
 use mathlib.Core.Bool.{Bool, true, false, not, ◌&&◌}
 use mathlib.Core.List.{List, [], ◌∷◌}
 use Prim.Native.Nat.{ℕ, ◌+◌, ◌*◌, ◌-◌, ◌≤◌, ◌<◌}
@@ -9,9 +9,9 @@ use native.Mathlib.Omega.{arith}
 use lib.Dec.{eqb}
 use lib.ListN.{length, get_or, drop, drop_of_length-le}
 use lib.Seq.{drop-cons}
-use borrow.Author.Tests.{eq-eqb, ne_eqb, le-leb, lt-leb, not-false}
+use borrow.Author.Tests.{eq-eqb, ne_eqb, le-leb, lt-leb}
 use Rattle.words.specs.Numbers.{digit, digits, value_after, MOST, is_number, number_of}
-use Rattle.words.proofs.Bools.{and_false, between}
+use Rattle.words.proofs.Bools.{and_false}
 
 pub digits_end : (s : List ℕ) (i : ℕ) → length s ≤ i → digits (drop i s) ≡ true
 unfolding digits
@@ -35,10 +35,6 @@ module _ (s : List ℕ) (i : ℕ) (h : i < length s) where
   pub value_more : (v : ℕ) → value_after v (drop i s) ≡ value_after (10 * v + (get_or s i 0 - 48)) (drop (i + 1) s)
   unfolding value_after
   value_more v = rw (drop-cons s i 0 h, add-one)
-
--- a byte that the code's test found a digit
-pub worth : (b : ℕ) (r : Bool) → r ≡ digit b → not r ≡ false → (48 ≤ b) × (b ≤ 57)
-worth b r e t = between 48 57 b (sym e ∙ not-false r t)
 
 -- more digits make no smaller value
 value_least : (s : List ℕ) (v : ℕ) → v ≤ value_after v s

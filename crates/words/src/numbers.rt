@@ -22,7 +22,7 @@ fn digit(b: u8) -> bool
 }
 
 // Decimal digits, one or more, of a value that is at most MOST.
-#[tactic(auto, using(crate::proofs::Digits::digits_end, crate::proofs::Digits::value_end, crate::proofs::Digits::digits_not, crate::proofs::Digits::digits_more, crate::proofs::Digits::value_more, crate::proofs::Digits::worth, crate::proofs::Digits::none_empty, crate::proofs::Digits::none_digits, crate::proofs::Digits::none_over, crate::proofs::Digits::some_number))]
+#[tactic(auto, using(crate::proofs::Digits::digits_end, crate::proofs::Digits::value_end, crate::proofs::Digits::digits_not, crate::proofs::Digits::digits_more, crate::proofs::Digits::value_more, crate::proofs::Digits::none_empty, crate::proofs::Digits::none_digits, crate::proofs::Digits::none_over, crate::proofs::Digits::some_number))]
 fn decimal(word: &[u8]) -> Number
     ensures { result ≡ number_of word.now }
 {

@@ -19,8 +19,8 @@ node_of-requires c = (bounds _ c.requires.net_value).all _ c.rows-n.ensures.0
 pub returns-then-number-ne-DONE : goal.returns-then-number-ne-DONE
 returns-then-number-ne-DONE c =
     let n = write_asked _ _ c.requires.net_value c.requires.row_bound _ _ _ c.regs_at-g.ensures _ c.write_number.ensures _
-        (is_duplicate _ _ _ _ c.regs_at-g.ensures _ _ c.after_write-after.ensures _ c.rows-n.ensures.0 _ c.on_line.ensures _ c.node_of.ensures)
-        _ c.refuse-number.ensures in
+    (is_duplicate _ _ _ _ c.regs_at-g.ensures _ _ c.after_write-after.ensures _ c.rows-n.ensures.0 _ c.on_line.ensures _ c.node_of.ensures)
+    _ c.refuse-number.ensures in
     let d = write_refused _ _ _ _ _ n c.if-number-ne-DONE.true in
     record { number = d.0; bytes = d.1 }
 
@@ -41,8 +41,8 @@ settle-requires c =
 pub returns : goal.returns
 returns c =
     let n = write_asked _ _ c.requires.net_value c.requires.row_bound _ _ _ c.regs_at-g.ensures _ c.write_number.ensures _
-        (is_duplicate _ _ _ _ c.regs_at-g.ensures _ _ c.after_write-after.ensures _ c.rows-n.ensures.0 _ c.on_line.ensures _ c.node_of.ensures)
-        _ c.refuse-number.ensures in
+    (is_duplicate _ _ _ _ c.regs_at-g.ensures _ _ c.after_write-after.ensures _ c.rows-n.ensures.0 _ c.on_line.ensures _ c.node_of.ensures)
+    _ c.refuse-number.ensures in
     let l = walked_lies _ _ _ c.row_start-a.ensures (shape_within _ c.requires.net_value _ c.requires.row_bound) _ c.row_end-e.ensures in
     let d = write_done _ _ _ _ _ n c.if-number-ne-DONE.false _ _ l _ c.write.ensures _ (online_is _ _ _ _ c.regs_at-g.ensures c.on_line-2.ensures) _ c.settle.ensures in
     record { number = d.0; bytes = d.1 }

@@ -2,7 +2,6 @@ use Rattle.std.proofs.Common.{◌≡◌, ◌&&◌, ◌==◌, ◌≤◌, ◌<◌,
 use Rattle.registers.specs.declared.regs.Regs.{Regs}
 use Rattle.registers.specs.Fit.{on_line}
 use Rattle.card.specs.Row.{row_size, regs_of}
-use Rattle.table.specs.Folds.{seek}
 use Rattle.table.specs.Rows.{row_start}
 use Rattle.table.specs.Network.{node_of}
 use Rattle.table.proofs.Folds.{seek_none, seek_here, seek_more}
@@ -33,12 +32,12 @@ returns-then-on_line-g c =
 
 pub loop-k-preserved : goal.loop-k-preserved
 loop-k-preserved c = (
-    search rules,
-    walk_on _ c.args.n c.requires _ _ c.loop-k.invariant.1 c.loop-k-test.true _ c.row_from-row.ensures.bytes,
-    seek_more _ _ c.loop-k.invariant.2
-    (asked _ c.args.id c.args.except _ c.requires _ _ c.loop-k.invariant.1 c.loop-k-test.true _ c.row_from-row.ensures.bytes _ c.load-g.ensures _ c.on_line.ensures
-    ∙ c.if-on_line-g.false),
-  )
+  search rules,
+  walk_on _ c.args.n c.requires _ _ c.loop-k.invariant.1 c.loop-k-test.true _ c.row_from-row.ensures.bytes,
+  seek_more _ _ c.loop-k.invariant.2
+      (asked _ c.args.id c.args.except _ c.requires _ _ c.loop-k.invariant.1 c.loop-k-test.true _ c.row_from-row.ensures.bytes _ c.load-g.ensures _ c.on_line.ensures
+      ∙ c.if-on_line-g.false),
+)
 
 pub returns : goal.returns
 unfolding node_of
