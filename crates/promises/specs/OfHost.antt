@@ -11,7 +11,6 @@ use Rattle.table.proofs.calls as calls
 use Rattle.line.proofs.step as step
 use Rattle.desk.specs.Lap.{lap_takers, list_after_lap}
 use Rattle.desk.specs.Host.{Call, At, Read, Write, Reset, Timer, Interrupt, Data, DataNumber, Step, Lap, Reply, Number, Register, Line, Stretch, Stepped, Takers, replied, called, reply_number}
-use Rattle.desk.proofs.laps as laps
 use Rattle.promises.specs.Once.{Says}
 use Rattle.promises.specs.LapReads as lap
 

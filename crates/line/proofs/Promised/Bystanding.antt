@@ -13,7 +13,6 @@ use Rattle.line.specs.declared.passes.Event.TheVariants.{Recovery, Message, Take
 use Rattle.bits.specs.Words.{pick}
 use Rattle.registers.specs.Events.{receiving}
 use Rattle.card.specs.Row.{regs_of, put_regs, well_formed, Whole}
-use Rattle.card.specs.Packets.{stored}
 use Rattle.card.specs.Moves.{OnlyAt}
 use Rattle.bits.proofs.Words.Bools.{or_false, pick_of}
 use Rattle.registers.proofs.Values.Listens.{Listens, listens_same, listens_recovered, listens_heard, listens_answered, reached_risen}

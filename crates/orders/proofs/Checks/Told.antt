@@ -10,10 +10,11 @@ use borrow.Author.Tests.{ne_eqb, eq-eqb, eqb-true, eqb-false, ltb-true, ltb-fals
 use Rattle.told.specs.Numbers.{DONE, LENGTH}
 use Rattle.bits.proofs.Words.Bools.{pick_of}
 use Rattle.table.specs.Folds.{seek}
-use Rattle.table.proofs.Folds.{seek_here, seek_more, seek_found, seek_least}
+use Rattle.table.proofs.Folds.{seek_more}
 use Rattle.orders.specs.declared.check.Checked.{Checked}
 use Rattle.orders.specs.Form.{records, length_fits}
 use Rattle.orders.specs.Check.{record_number, refused, first_bad, tells, checked}
+use Rattle.orders.proofs.Checks.Found.{first_here, first_none, first_refused, first_below}
 
 module _ (order : List ℕ) where
   -- ---- as the code goes: the search finds none of the first k records
@@ -21,40 +22,24 @@ module _ (order : List ℕ) where
   unfolding checked
   tells_length l = rw l
 
-  first_here : (k : ℕ) → seek (refused order) k ≡ k → k < records order → refused order k ≡ true → first_bad order ≡ k
-  unfolding first_bad
-  first_here k s b f = seek_here (refused order) (records order) k s f b
-
-  first_none : seek (refused order) (records order) ≡ records order → first_bad order ≡ records order
-  unfolding first_bad
-  first_none s = s
-
   module _ (l : length_fits order ≡ true) (k : ℕ) (s : seek (refused order) k ≡ k) where
     pub tells_bad : k < records order → (m : ℕ) → m ≡ record_number order k → (m ≡ DONE → ⊥) → tells m (k + 1) ≡ checked order
     unfolding checked
-    tells_bad b m p u = rw (l, first_here k s b (ap not (ne_eqb _ _ (λ z. u (p ∙ z)))), lt-ltb k (records order) b, p)
+    tells_bad b m p u = rw (l, first_here order k s b (ap not (ne_eqb _ _ (λ z. u (p ∙ z)))), lt-ltb k (records order) b, p)
 
     pub tells_good : k ≡ records order → tells DONE 0 ≡ checked order
     unfolding checked
-    tells_good c = rw (l, first_none (rw c at s), le-ltb (records order) (records order) (omega arith))
+    tells_good c = rw (l, first_none order (rw c at s), le-ltb (records order) (records order) (omega arith))
 
   pub goes_on : (k : ℕ) → seek (refused order) k ≡ k → (m : ℕ) → m ≡ record_number order k → m ≡ DONE → seek (refused order) (k + 1) ≡ k + 1
   goes_on k s m p z = seek_more (refused order) k s (ap not (eq-eqb _ _ (sym p ∙ z)))
 
-  -- ---- the record that is found: it is refused where there is one, and none before it is
-  first_refused : first_bad order < records order → refused order (first_bad order) ≡ true
-  unfolding first_bad
-  first_refused b = seek_found (refused order) (records order) b
-
-  first_below : (j : ℕ) → j < first_bad order → refused order j ≡ false
-  unfolding first_bad
-  first_below j b = seek_least (refused order) (records order) j b
-
+  -- ---- none of the first n records is refused
   abbrev pub Good : ℕ → Type 0
   Good n = (j : ℕ) → j < n → record_number order j ≡ DONE
 
   good_below : (n : ℕ) → n ≤ first_bad order → Good n
-  good_below n h j b = eqb-true _ _ (not-false (eqb (record_number order j) DONE) (first_below j (omega arith)))
+  good_below n h j b = eqb-true _ _ (not-false (eqb (record_number order j) DONE) (first_below order j (omega arith)))
 
   -- ---- what is told is one of three: LENGTH; the refusal of a record, none before it being refused; DONE, where none is
   pub record First (k : ℕ) : Type 0 where
@@ -76,6 +61,6 @@ module _ (order : List ℕ) where
           sized = not-false (length_fits order) t;
           there = l;
           before = good_below k (omega arith);
-          fault = eqb-false _ _ (not-true (eqb (record_number order k) DONE) (first_refused l));
+          fault = eqb-false _ _ (not-true (eqb (record_number order k) DONE) (first_refused order l));
         }))
         (λ b. good (not-false (length_fits order) t) (good_below (records order) (ltb-false k (records order) b))))

@@ -53,10 +53,6 @@ module _ (net : List ℕ) (n : ℕ) (h : row_start net n ≤ length net) (k a : 
   pub walk_room : a + row_size (drop a net) ≤ length net
   walk_room = omega (arith, walk_size net k a p (row_size (drop a net)) refl, start_mono net (suc k) n l)
 
-  -- the rows passed lie in the network
-  pub walk_passed : row_start net k ≤ length net
-  walk_passed = omega (arith, p, walk_room)
-
   module _ (r : List ℕ) (e : r ≡ take (row_size (drop a net)) (drop a net)) where
     pub walk_row : r ≡ row_at net k
     unfolding row_at
