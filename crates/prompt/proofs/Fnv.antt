@@ -1,7 +1,6 @@
 -- FNV's sum, byte by byte.
 -- Assumes nothing.
-use Rattle.std.proofs.Common.{◌≡◌, ℕ, ◌+◌, ◌*◌, ◌/◌, ◌%◌, ◌<◌, ◌≤◌, List, length, get_or, drop, sym, refl, ap, ◌∙◌, add-one, arith, drop_of_length-le, drop-cons}
-use native.Mathlib.Nat.{mod-add-mod, add-mod-mod}
+use Rattle.std.proofs.Common.{◌≡◌, ℕ, ◌+◌, ◌*◌, ◌%◌, ◌<◌, ◌≤◌, List, length, get_or, drop, add-one, drop_of_length-le, drop-cons}
 use lib.Bits.{bit_xor}
 use Rattle.prompt.specs.Sums.{PRIME, sum_after}
 

@@ -1,6 +1,6 @@
 -- Bytes moved to the front of a buffer, one by one.
 -- Assumes nothing.
-use Rattle.std.proofs.Common.{◌≡◌, ℕ, suc, ◌+◌, ◌-◌, ◌<◌, ◌≤◌, List, [], ◌∷◌, ◌++◌, length, get_or, take, drop, set, sym, refl, ap, ◌∙◌, add_comm, add-one, arith, length-drop, length-set, get_or-drop, take-suc, drop-drop, take-suc-set, drop-set-lt}
+use Rattle.std.proofs.Common.{◌≡◌, ℕ, suc, ◌+◌, ◌<◌, ◌≤◌, List, length, get_or, take, drop, set, sym, ap, ◌∙◌, add_comm, add-one, arith, length-drop, length-set, get_or-drop, take-suc, drop-drop, take-suc-set, drop-set-lt}
 
 -- of the n bytes that stand from `from` on in l, the first i stand at the front of m; the bytes from i on are as they were
 pub record Moved (l : List ℕ) (from n : ℕ) (m : List ℕ) (i : ℕ) : Type 0 where

@@ -1,0 +1,30 @@
+-- The network of an order that fits the buffer fits its own.
+use Rattle.std.proofs.Common.{◌≡◌, ℕ, ◌+◌, ◌*◌, ◌≤◌, List, length, arith}
+use Rattle.table.specs.Network.{row_limit}
+use Rattle.table.specs.Calls.{exact_length}
+use Rattle.table.proofs.Access.Fresh.{exact_mono}
+use Rattle.orders.specs.Form.{record_bytes, records}
+use Rattle.orders.proofs.Forms.Records.{records_within}
+use Rattle.desk.proofs.Loads.Loaded.{load_within}
+use Rattle.lap.proofs.answer.Goals as goal
+
+-- no more records than there may be rows, and room for as many
+few : (order : List ℕ) (n : ℕ) → n ≡ records order → length order ≤ record_bytes * row_limit + 1 → n ≤ row_limit
+few order n e h = omega (arith, e, records_within order, h)
+
+room : (order net : List ℕ) (n size : ℕ) → n ≡ records order → length order ≤ record_bytes * row_limit + 1 → exact_length row_limit ≤ length net
+    → size ≡ exact_length n → size ≤ length net
+room order net n size e h r s = omega (arith, s, exact_mono n row_limit (few order n e h), r)
+
+pub exact_length-size-requires : goal.exact_length-size-requires
+exact_length-size-requires g c = let f = few _ _ c.records-n.ensures c.requires.order_len_bound in omega arith
+
+pub slice_bounds-load-end : goal.slice_bounds-load-end
+slice_bounds-load-end g c = room _ _ _ _ c.records-n.ensures c.requires.order_len_bound c.requires.row_limit_in_bounds c.exact_length-size.ensures
+
+-- the record that a refusal names is one of the order's
+pub unfit-requires : goal.unfit-requires
+unfit-requires g c = load_within _ _ _ c.load-checked.ensures.told
+
+pub takers-requires : goal.takers-requires
+takers-requires g c = few _ _ c.records-n.ensures c.requires.order_len_bound
