@@ -1,11 +1,11 @@
 -- SHAPE alone: its number is 0 exactly if the network is well formed. And the lists of the bench's own calls rise: "The smallest number wins".
 -- Assumes nothing.
 use mathlib.Core.Path.{◌≡◌, refl, sym, ◌∙◌}
-use mathlib.Core.Bool.{Bool, true, not}
+use mathlib.Core.Bool.{true}
 use mathlib.Core.List.{List}
 use Prim.Native.Nat.{ℕ}
 use borrow.Author.Tests.{not-false}
-use Rattle.told.specs.Numbers.{DONE, SHAPE, refuse, Smallest}
+use Rattle.told.specs.Numbers.{SHAPE, Smallest}
 use Rattle.told.proofs.Told.Smallest.{none_refuses, smallest}
 use Rattle.table.specs.Network.{shape}
 use Rattle.bench.specs.Calls.{shape_refusals, shape_number, wide_refusals, wide_number}
@@ -21,10 +21,6 @@ module _ (net : List ℕ) where
   smallest_wide row register = smallest (wide_refusals net row register) (place_rises net row _ refl)
 
 module _ (net : List ℕ) (r : ℕ) where
-  pub shape_told : (s : Bool) → s ≡ shape net → r ≡ refuse DONE SHAPE (not s) → r ≡ shape_number net
-  unfolding shape_number
-  shape_told s e h = h ∙ rw e
-
   -- a network with the number 0 is well formed
   pub well_formed_lem : r ≡ shape_number net → r ≡ 0 → shape net ≡ true
   unfolding shape_number

@@ -1,15 +1,13 @@
 -- What a line leaves: the current length stays within the buffer.
 -- Assumes nothing.
-use mathlib.Core.Path.{◌≡◌, refl, sym, ap, ◌∙◌}
-use mathlib.Core.Bool.{Bool, true, false, not, ◌&&◌, ◌||◌}
-use mathlib.Core.List.{List, ◌++◌}
-use Prim.Native.Nat.{ℕ, ◌+◌, ◌-◌, ◌≤◌}
+use mathlib.Core.Path.{◌≡◌, ◌∙◌}
+use mathlib.Core.Bool.{Bool, true, not, ◌&&◌, ◌||◌}
+use mathlib.Core.List.{List}
+use Prim.Native.Nat.{ℕ, ◌-◌, ◌≤◌}
 use native.Mathlib.Omega.{arith}
 use lib.Dec.{eqb, ltb}
-use lib.ListN.{take, drop}
 use borrow.Author.Tests.{ltb-false}
 use borrow.Rule.Slice.PartMut.{mid_of, put_mid}
-use Rattle.bits.specs.Words.{pick}
 use Rattle.bits.proofs.Words.Bools.{pick_of}
 use Rattle.words.specs.Words.{word, count, spaced}
 use Rattle.words.specs.Hex.{hex_fits}

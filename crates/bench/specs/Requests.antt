@@ -1,6 +1,6 @@
 -- What a line asks.
 -- Assumes nothing.
-use Rattle.std.specs.Prelude.{Bool, true, false, not, ◌&&◌, ◌||◌, List, [], ◌∷◌, ◌++◌, ℕ, eqb, ltb, leb}
+use Rattle.std.specs.Prelude.{Bool, true, not, ◌&&◌, ◌||◌, List, [], ◌∷◌, ◌++◌, ℕ, eqb, ltb, leb}
 use Prim.Native.Char.{code}
 use Prim.Native.String.{String, [] as none, ◌∷◌ as ◌and◌}
 use Rattle.bits.specs.Words.{pick}
@@ -8,7 +8,6 @@ use Rattle.words.specs.declared.numbers.Number.{Number}
 use Rattle.words.specs.Words.{NEWLINE, word, row, count, spaced}
 use Rattle.words.specs.Numbers.{number_of}
 use Rattle.words.specs.Hex.{hex_fits}
-use Rattle.prompt.specs.declared.answers.Mistake.{Mistake}
 use Rattle.prompt.specs.declared.answers.Mistake.TheVariants as mistake
 use Rattle.bench.specs.declared.requests.Form.{Form}
 use Rattle.bench.specs.declared.requests.Request.{Request}

@@ -16,6 +16,7 @@ use table::network::{ROWS, regs_at, shape};
 use told::numbers::{DONE, REGISTER, SHAPE, VALUE, refuse};
 
 // SHAPE alone: 0 where the network is well formed.
+#[tactic(auto, unfolding(crate::specs::Calls::shape_number))]
 pub(crate) fn shape_number(net: &[u8]) -> u8
     ensures { result ≡ shape_number net.now }
 {
@@ -33,6 +34,7 @@ pub(crate) fn inside(net: &[u8], at: usize, n: usize) -> bool
 }
 
 // Bytes are stored, where they all stand inside the lent ones; else nothing is.
+#[tactic(auto, using(words::proofs::Pairs::unhex_length), unfolding(crate::specs::Calls::poked))]
 pub(crate) fn poke(net: &mut [u8], at: usize, digits: &[u8]) -> bool
     ensures done { result ≡ inside net.old at (length (unhex digits.now)) }
     ensures bytes { net.new ≡ poked net.old at (unhex digits.now) }
@@ -70,6 +72,7 @@ fn wide_value(net: &[u8], row: usize, register: usize) -> u8
 }
 
 // A register of a row is written.
+#[tactic(auto, unfolding(crate::specs::Calls::value_number, crate::specs::Calls::net_after_value))]
 pub(crate) fn write(net: &mut [u8], row: usize, register: usize, value: usize) -> u8
     ensures number { result ≡ value_number net.old row register value }
     ensures bytes { net.new ≡ net_after_value net.old row register value }

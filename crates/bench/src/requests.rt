@@ -86,6 +86,7 @@ const TABLE: [u8; 238] = *b"size 0 2 2 2\n\
     lap 31 2 2 2\n";
 
 // The form of a word. An unknown word's form is all zeros, and no line has no words.
+#[tactic(auto, unfolding(crate::specs::Requests::form_of))]
 fn form_of(name: &[u8]) -> Form
     ensures { result ≡ form_of name.now }
 {
@@ -99,6 +100,7 @@ fn form_of(name: &[u8]) -> Form
 }
 
 // The number that is word k of the line; 0 where the numbers end before it.
+#[tactic(auto, unfolding(crate::specs::Requests::argument))]
 fn argument(line: &[u8], k: usize, end: usize) -> Number
     ensures { result ≡ argument line.now k end }
 {
@@ -109,6 +111,7 @@ fn argument(line: &[u8], k: usize, end: usize) -> Number
 }
 
 // A request with its numbers, within the limits of the buffer and the list.
+#[tactic(auto, unfolding(crate::specs::Requests::made))]
 fn made(call: usize, a: usize, b: usize, c: usize) -> Request
     ensures { result ≡ made call a b c }
 {
@@ -122,6 +125,7 @@ fn made(call: usize, a: usize, b: usize, c: usize) -> Request
 }
 
 // What a line whose first word has this form asks; the first of the mistakes that it has.
+#[tactic(auto, unfolding(crate::specs::Requests::asked_of))]
 fn asked_of(line: &[u8], form: Form) -> Request
     ensures { result ≡ asked_of line.now form }
 {
@@ -146,6 +150,7 @@ fn asked_of(line: &[u8], form: Form) -> Request
 }
 
 // What a line asks, of which `long` says that it did not fit.
+#[tactic(auto, unfolding(crate::specs::Requests::asked))]
 pub(crate) fn asked(long: bool, line: &[u8]) -> Request
     ensures { result ≡ asked long line.now }
 {

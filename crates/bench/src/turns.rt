@@ -63,6 +63,7 @@ fn data(
     answers::hex(rt, out, table::calls::page_data(net, row, page))
 }
 
+#[tactic(auto, using(crate::proofs::Checks::well_formed_lem))]
 fn show(rt: &impl Print, out: &mut [u8; ROOM], net: &[u8]) -> io::Result<()> {
     let number = calls::shape_number(net);
     if number != 0 {
@@ -97,6 +98,7 @@ fn look(
 }
 
 // The calls that store bytes: `poke`, `fresh` and `load`.
+#[tactic(auto, unfolding(crate::specs::Turns::net_after_bytes))]
 fn on_bytes(net: &mut [u8], line: &[u8], q: Call) -> Told
     requires { length line.now ≤ LINE }
     ensures { net.new ≡ net_after_bytes q line.now net.old }
@@ -110,6 +112,7 @@ fn on_bytes(net: &mut [u8], line: &[u8], q: Call) -> Told
 }
 
 // The calls on a row: `read`, `write`, `reset` and `timer`.
+#[tactic(auto, unfolding(crate::specs::Turns::net_after_row))]
 fn on_row(net: &mut [u8], q: Call) -> Told
     ensures { net.new ≡ net_after_row q net.old }
 {
@@ -123,6 +126,7 @@ fn on_row(net: &mut [u8], q: Call) -> Told
 }
 
 // The calls on the line: `step` and `lap`.
+#[tactic(auto, unfolding(crate::specs::Turns::net_after_steps))]
 fn on_steps(rt: &impl Print, out: &mut [u8; ROOM], net: &mut [u8], q: Call) -> io::Result<()>
     ensures { net.new ≡ net_after_steps q net.old }
 {
@@ -133,6 +137,7 @@ fn on_steps(rt: &impl Print, out: &mut [u8; ROOM], net: &mut [u8], q: Call) -> i
     }
 }
 
+#[tactic(auto, unfolding(crate::specs::Turns::net_after_call))]
 fn call(
     rt: &impl Print,
     out: &mut [u8; ROOM],
