@@ -1,4 +1,5 @@
-// The calls that the line and the desk do not have as they are.
+// The calls that the line and the desk do not have as they are. Where a write fails, its error is handed back, and the
+// network is as the call left it.
 ghost use Rattle.std.specs.Prelude.{◌≡◌, ◌≤◌, length};
 ghost use Rattle.words.specs.Hex.{unhex};
 ghost use Rattle.table.specs.Network.{row_limit};

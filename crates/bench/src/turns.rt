@@ -1,4 +1,5 @@
-// A line is answered.
+// A line is answered. Where a write fails, its error is handed back, and the answer ends there; the network is as the call
+// left it, as each clause on its bytes says.
 ghost use Rattle.std.specs.Prelude.{◌≡◌, ◌≤◌, length, IfOk};
 ghost use Rattle.words.specs.Hex.{unhex};
 ghost use Rattle.prompt.specs.Input.{LINE};

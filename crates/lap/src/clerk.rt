@@ -1,5 +1,5 @@
 // What is wrong with an order, as one sentence for the clerk on standard error (C-12): the record and its station, what
-// the record has, and what it has to have.
+// the record has, and what it has to have. Where a write fails, its error is handed back, and the sentence ends there.
 ghost use Rattle.std.specs.Prelude.{◌+◌, ◌*◌, ◌≤◌, length};
 ghost use Rattle.orders.specs.Form.{record_bytes};
 

@@ -95,7 +95,8 @@ fn answer(rt: &impl Print, err: Stderr, order: &[u8], net: &mut [u8]) -> io::Res
     takers(rt, order, l, n)
 }
 
-// Reads until the buffer is full or the input ends. It hands back how many bytes were read.
+// Reads until the buffer is full or the input ends. It hands back how many bytes were read; where a read fails, its error,
+// and the buffer has what was read before.
 fn read_full(stdin: &mut impl Read, buffer: &mut [u8]) -> io::Result<usize>
     ensures { IfOk result (λ n. n ≤ length buffer.new) }
 {

@@ -1,4 +1,5 @@
-// Text on standard error, for a person beside the program's output.
+// Text on standard error, for a person beside the program's output. Where a write fails, its error is handed back, and
+// what was to follow is not written.
 use std::io;
 use std::io::Stderr;
 

@@ -1,4 +1,5 @@
-// Text on standard output, for the programs.
+// Text on standard output, for the programs. Where a write fails, its error is handed back, and what was to follow is not
+// written.
 #![tactic(auto)]
 
 pub mod aside;

@@ -1,4 +1,4 @@
-// The answer lines.
+// The answer lines. Where a write fails, its error is handed back, and the rest of the line is not gathered.
 ghost use Rattle.std.specs.Prelude.{◌≡◌, [], ◌∷◌, ◌++◌, OnOk, OnErr};
 ghost use Rattle.print.specs.Gather.{got, line_of, spaced, Unwritten, NEWLINE};
 ghost use Rattle.prompt.specs.Answers.{DONE as DONE_TEXT};

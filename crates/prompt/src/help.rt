@@ -1,4 +1,4 @@
-// The words that a line may begin with.
+// The words that a line may begin with. Where a write fails, its error is handed back, and the text ends there.
 use print::gather::{ROOM, end, text};
 use std::io;
 

@@ -55,7 +55,8 @@ fn shift(lines: &mut [u8], from: usize, to: usize)
     }
 }
 
-// One read, to what is behind the first `kept` bytes. It hands back where the bytes end.
+// One read, to what is behind the first `kept` bytes. It hands back where the bytes end; where the read fails, its error,
+// and the first `kept` bytes stand all the same.
 fn refill(stdin: &mut impl Read, lines: &mut [u8], kept: usize) -> io::Result<usize>
     requires { kept ≤ length lines.old }
     ensures end { IfOk result (λ n. (kept ≤ n) × (n ≤ length lines.old)) }
@@ -100,7 +101,8 @@ fn last(long: bool, to: usize) -> Input
     }
 }
 
-// The next line is taken; the last one may lack its newline.
+// The next line is taken; the last one may lack its newline. Where a read fails, its error is handed back, and no line is
+// taken: what the buffer holds is the beginning of one.
 pub fn next(stdin: &mut impl Read, lines: &mut [u8; LINE], input: Input) -> io::Result<Input>
     requires { Within input }
     ensures { IfOk result Within }

@@ -1,4 +1,4 @@
-// A table of the rows, for a person.
+// A table of the rows, for a person. Where a write fails, its error is handed back, and the table ends there.
 ghost use Rattle.std.specs.Prelude.{◌≡◌, ◌≤◌, true, length};
 ghost use Rattle.table.specs.Rows.{row_start};
 ghost use Rattle.table.specs.Network.{shape};
