@@ -1,13 +1,8 @@
 ghost use Rattle.std.specs.Prelude.{◌≡◌};
 ghost use Rattle.bits.specs.Words.{pick};
 
-pub fn choose(b: bool, x: u8, y: u8) -> u8
-    ensures { result ≡ pick b x y }
-{
-    if b { x } else { y }
-}
-
-pub fn either(b: bool, x: bool, y: bool) -> bool
+// One of two values, with no branch for what follows to be proved on twice.
+pub fn choose<T: Copy>(b: bool, x: T, y: T) -> T
     ensures { result ≡ pick b x y }
 {
     if b { x } else { y }

@@ -1,12 +1,13 @@
 // Document 01, "Packets": the shape of a page, the reader, and the packet read out and stored.
 ghost use Rattle.std.specs.Prelude.{◌≡◌, ◌+◌, ◌-◌, ◌≤◌, ◌<◌, length, take, drop};
 ghost use Rattle.places.specs.Places.{onward};
+ghost use Rattle.told.specs.Refusals.{number};
 ghost use Rattle.card.specs.Row.{Whole};
 ghost use Rattle.card.specs.Packets.{shape_of, data_bytes, data_at, head_bytes, page_bytes, page_of, page_at, malformed, page_shape, destination, data_number, data_from, page_data, packet_at, laid, stored, stamped, storable};
 
 use crate::row::{REGISTER_BYTES, load};
 use registers::regs::Regs;
-use told::numbers::{DONE, VALUE, refuse};
+use told::refusals::Refusal;
 
 // What a page holds, and the COUNT byte of a packet: the page offset at which its data start.
 #[derive(Clone, Copy)]
@@ -160,16 +161,16 @@ pub fn page_data(row: &[u8], page: usize) -> &[u8]
     &row[from..to]
 }
 
-// The number that belongs to the reader's answer.
-#[tactic(auto, using(told::proofs::Told::Smallest::refuse_held), unfolding(crate::specs::Packets::data_refusals))]
-pub fn data_number(row: &[u8], page: usize) -> u8
+// Whether the reader's data may be asked for.
+#[tactic(auto, using(told::proofs::Told::Smallest::refuse_held, told::proofs::Told::Results::handed_number, told::proofs::Told::Results::stands), unfolding(crate::specs::Packets::data_refusals))]
+pub fn may_read_data(row: &[u8], page: usize) -> Result<(), Refusal>
     requires { Whole row.now }
-    ensures { result ≡ data_number row.now page }
+    ensures { number result ≡ data_number row.now page }
 {
     if 3 < page {
-        return VALUE;
+        return Err(Refusal::Value);
     }
-    refuse(DONE, VALUE, page_shape(row, page).malformed())
+    Refusal::Value.when(page_shape(row, page).malformed())
 }
 
 // The packet of a page is read out of the row.

@@ -1,14 +1,13 @@
 // Document 01, "Twenty command bytes are legal, in hex", and the two of C-11.
-ghost use Rattle.std.specs.Prelude.{◌≡◌};
+ghost use Rattle.std.specs.Prelude.{◌≡◌, Some};
 ghost use Rattle.commands.specs.Commands.{command_of, illegal};
 
 use bits::flags::BROADCASTS;
 use bits::way::Way;
 
 // What a byte written to register 1 asks of the card. Pages are 0 to 3.
-#[derive(Clone, Copy)]
+#[derive(Clone, Copy, Debug, PartialEq, Eq)]
 pub enum Command {
-    Illegal,
     // Disable Transmitter, Disable Receiver.
     Disable(Way),
     // Enable Transmit and Enable Receive: the page, and of a receive the bit that wants broadcasts.
@@ -49,33 +48,21 @@ const LEGAL: [Legal; 22] = [
     Legal(0x08, Command::Clear(Way::Receive)),
 ];
 
-// The command of a byte, found in the table.
-pub fn decode(byte: u8) -> Command
+// The command of a byte, where it is legal.
+pub fn decode(byte: u8) -> Option<Command>
     ensures { result ≡ command_of byte }
 {
-    let mut i = 0;
-    while i < 22 {
-        let legal = LEGAL[i];
-        if legal.0 == byte {
-            let found = legal.1;
-            return found;
-        }
-        i += 1;
-    }
-    Command::Illegal
+    LEGAL
+        .iter()
+        .find(|legal| legal.0 == byte)
+        .map(|legal| legal.1)
 }
 
 impl Command {
+    // Of a chaining row alone.
     pub fn illegal(self, chaining: bool) -> bool
-        ensures { result ≡ illegal chaining self }
+        ensures { result ≡ illegal chaining (Some self) }
     {
-        match self {
-            Command::Illegal => true,
-            Command::Disable(_) => false,
-            Command::Enable(_, _) => false,
-            Command::LongPackets(_) => false,
-            Command::ClearFlags(_, _) => false,
-            Command::Clear(_) => !chaining,
-        }
+        matches!(self, Command::Clear(_)) & !chaining
     }
 }

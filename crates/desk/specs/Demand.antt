@@ -2,8 +2,8 @@
 -- Assumes nothing.
 use Rattle.std.specs.Prelude.{◌≡◌, true, List, [], ◌∷◌, map, ℕ, zero, suc, ◌+◌, ◌*◌, ◌≤◌, ◌<◌, eqb, length}
 use Rattle.bits.specs.Words.{pick}
-use Rattle.line.specs.declared.step.Answer.{Answer}
-use Rattle.line.specs.declared.step.Answer.TheVariants.{Recovered, Passed}
+use Rattle.line.specs.Answers.{Answer}
+use Rattle.line.specs.Answers.{Recovered, Passed}
 use Rattle.table.specs.Folds.{some}
 use Rattle.table.specs.Network.{Bytes, rows, phase, holder, LOST, TAKEN, is_node, shape, SameNodes}
 use Rattle.line.specs.Step.{highest, answer_number}

@@ -2,15 +2,12 @@
 -- Assumes nothing.
 use Rattle.std.specs.Prelude.{List, [], ◌∷◌, ℕ, ◌<◌}
 use Rattle.card.specs.Packets.{data_from}
-use Rattle.table.specs.declared.calls.Reading.{Reading}
-use Rattle.table.specs.declared.calls.Interrupting.{Interrupting}
 use Rattle.table.specs.Rows.{row_at}
-use Rattle.table.specs.Calls.{place_number, net_reading, net_after_read, net_write_number, net_after_write, net_after_reset, timer_number, net_after_timer, net_interrupt, net_data, net_data_number}
-use Rattle.line.specs.declared.step.Answer.{Answer}
+use Rattle.table.specs.Calls.{Reading, Interrupting, place_number, net_reading, net_after_read, net_write_number, net_after_write, net_after_reset, timer_number, net_after_timer, net_interrupt, net_data, net_data_number}
+use Rattle.line.specs.Answers.{Answer}
 use Rattle.line.specs.Step.{step, answer_number}
 use Rattle.desk.specs.declared.laps.Taker.{Taker}
-use Rattle.desk.specs.declared.laps.Lapped.{Lapped}
-use Rattle.desk.specs.Lap.{lapped, net_after_lap, lap_takers}
+use Rattle.desk.specs.Lap.{Lapped, lapped, net_after_lap, lap_takers}
 
 -- to one row: register read (register) and write (register, value, which is a byte); hardware reset, lost-token timer and interrupt; page reader (page) and its number
 pub data RowCall : Type 0 where

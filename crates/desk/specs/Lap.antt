@@ -1,15 +1,17 @@
 -- Document 01, "Order forms and the lap": the lap call.
 -- Assumes nothing.
-use Rattle.std.specs.Prelude.{Bool, true, false, not, ◌&&◌, List, [], ◌∷◌, ◌++◌, ◌≡◌, ℕ, zero, suc, ◌+◌, ◌*◌, ◌≤◌, eqb, ltb, length, take, drop, replicate}
+use Rattle.std.specs.Prelude.{Bool, true, false, not, ◌&&◌, Result, Ok, Err, List, [], ◌∷◌, ◌++◌, ◌≡◌, ℕ, zero, suc, ◌+◌, ◌*◌, ◌≤◌, eqb, ltb, length, take, drop, replicate}
 use Rattle.bits.specs.Words.{pick}
-use Rattle.told.specs.Numbers.{SHAPE, BUSY, ALONE, ROOM, Refusal, ◌when◌, told}
-use Rattle.line.specs.declared.step.Answer.{Answer}
-use Rattle.line.specs.declared.step.Answer.TheVariants.{Refused, Quiet, Recovered, Passed, Unanswered, TokenLost, Held}
+use Rattle.told.specs.declared.refusals.Refusal as kinds
+use Rattle.told.specs.Refusals.{number_of}
+use Rattle.told.specs.Numbers.{DONE, SHAPE, BUSY, ALONE, ROOM, Refusal, ◌when◌, told}
+use Rattle.line.specs.Answers.{Answer}
+use Rattle.line.specs.Answers.{Refused, Quiet, Recovered, Passed, Unanswered, TokenLost, Held}
 use Rattle.table.specs.Folds.{seek}
 use Rattle.table.specs.Network.{row_limit, rows, phase, holder, LOST, regs_at, on_line_at, shape}
 use Rattle.line.specs.Step.{step, answer_value}
 use Rattle.desk.specs.declared.laps.Taker.{Taker}
-use Rattle.desk.specs.declared.laps.Lapped.{Lapped}
+use Rattle.desk.specs.declared.laps.Walked as code
 
 -- "Here n counts the nodes on line": of the first k rows
 unfoldable pub online : List ℕ → ℕ → ℕ
@@ -93,6 +95,15 @@ lap_number net room = told (lap_refusals net room)
 abbrev pub runs : List ℕ → ℕ → Bool
 runs net room = eqb (lap_number net room) 0
 
+-- what the call tells: its number, and the total
+pub record Lapped : Type 0 where
+  pub number : ℕ
+  pub total : ℕ
+
+abbrev pub lapping : Result ℕ kinds.Refusal → Lapped
+lapping (Ok total) = record { number = DONE; total = total }
+lapping (Err e) = record { number = number_of e; total = 0 }
+
 -- "It answers the total"; "a refusal returns 0 .. beside its number"
 unfoldable pub lapped : List ℕ → ℕ → Lapped
 lapped net room = record { number = lap_number net room; total = pick (runs net room) (invitations (answers (lap_steps net) net)) 0 }
@@ -106,6 +117,19 @@ lap_takers net room = pick (runs net room) (takers net 0 (answers (lap_steps net
 
 unfoldable pub list_after_lap : List ℕ → List Taker → List Taker
 list_after_lap net list = lap_takers net (length list) ++ drop (length (lap_takers net (length list))) list
+
+-- of a lap that was walked: how many takers, the list, and the total; a refusal has none
+abbrev pub walked_count : Result code.Walked kinds.Refusal → ℕ
+walked_count (Ok w) = w.n
+walked_count (Err e) = 0
+
+abbrev pub walked_list : Result code.Walked kinds.Refusal → List Taker
+walked_list (Ok w) = w.list
+walked_list (Err e) = nobody
+
+abbrev pub walked_total : Result code.Walked kinds.Refusal → Result ℕ kinds.Refusal
+walked_total (Ok w) = Ok w.total
+walked_total (Err e) = Err e
 
 -- what is handed back where no list is lent: how many takers there are, the list, in which they come first and nobody has the rest, the answer, and the network
 abbrev pub Walks : List ℕ → ℕ → ℕ → List Taker → Lapped → List ℕ → Type 0

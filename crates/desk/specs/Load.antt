@@ -4,9 +4,8 @@ use Rattle.std.specs.Prelude.{not, List, [], ◌∷◌, ℕ, zero, suc, eqb, len
 use Rattle.bits.specs.Words.{pick, has}
 use Rattle.told.specs.Numbers.{ROOM, Refusal, ◌when◌, told_after}
 use Rattle.table.specs.Calls.{exact_length, net_after_write, net_after_fresh}
-use Rattle.orders.specs.declared.check.Checked.{Checked}
 use Rattle.orders.specs.Form.{records, record_at, id_at, flags_of, RECEIVE, LONG}
-use Rattle.orders.specs.Check.{tells, checked}
+use Rattle.orders.specs.Check.{Checked, tells, checked}
 
 -- "per row in order: configuration 19, node ID, command 0D if long, command 84 if receive on, configuration 38": each is the register write itself
 abbrev pub set19 : List ℕ → ℕ → List ℕ

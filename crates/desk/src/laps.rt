@@ -1,12 +1,14 @@
 // Document 01, "Order forms and the lap": the lap call.
-ghost use Rattle.std.specs.Prelude.{◌≡◌, true, ◌++◌, ◌+◌, ◌≤◌, length, take, drop};
+ghost use Rattle.std.specs.Prelude.{◌≡◌, true, ◌+◌, ◌≤◌, length, take, drop, IfOk};
+ghost use Rattle.told.specs.Refusals.{number};
+ghost use Rattle.line.specs.Answers.{said};
 ghost use Rattle.table.specs.Rows.{row_start};
-ghost use Rattle.table.specs.Network.{row_limit, LOST, phase, shape};
-ghost use Rattle.desk.specs.Lap.{online, nodes, invitation, passed, invitations, takers, answers, after, lap_steps, lap_number, lapped, net_after_lap, list_after_lap, nobody, Walks};
+ghost use Rattle.table.specs.Network.{LOST, phase, shape};
+ghost use Rattle.desk.specs.Lap.{online, nodes, invitation, passed, invitations, takers, answers, after, lap_steps, lap_number, lapping, walked_count, walked_list, walked_total, lapped, net_after_lap, list_after_lap, nobody, Walks};
 
 use line::step::{Answer, step_on};
 use table::network::{HEADER, LOST, ROWS, phase, regs_at, row_from, rows, shape};
-use told::numbers::{ALONE, BUSY, DONE, ROOM, SHAPE, refuse};
+use told::refusals::Refusal;
 
 // A row that took the token: its node ID, its number from 0, and the invitations since the holder before.
 #[derive(Clone, Copy)]
@@ -16,49 +18,26 @@ pub struct Taker {
     pub invitations: u16,
 }
 
-// What the lap call answers: the refusal's number, DONE for none, and the total, 0 beside a refusal.
-#[derive(Clone, Copy)]
-pub struct Lapped {
-    pub number: u8,
-    pub total: u16,
-}
-
-// A lap that was run: what it answers, and the takers, the first n of the list.
+// A lap that was run: the total, and the takers, the first n of the list; nobody has the entries past n.
 #[derive(Clone, Copy)]
 pub struct Walked {
-    pub lapped: Lapped,
+    pub total: u16,
     pub n: usize,
     pub list: [Taker; ROWS],
 }
 
 // The answers that tell of an invitation.
 fn invitation(answer: Answer) -> bool
-    ensures { result ≡ invitation answer }
+    ensures { result ≡ invitation (said answer) }
 {
-    match answer {
-        Answer::Refused(_) => false,
-        Answer::Quiet => false,
-        Answer::Recovered(_) => false,
-        Answer::Passed(_) => true,
-        Answer::Unanswered(_) => true,
-        Answer::TokenLost => false,
-        Answer::Held(_) => false,
-    }
+    matches!(answer, Answer::Passed(_) | Answer::Unanswered(_))
 }
 
 // The answers that tell of an invitation that was taken.
 fn passed(answer: Answer) -> bool
-    ensures { result ≡ passed answer }
+    ensures { result ≡ passed (said answer) }
 {
-    match answer {
-        Answer::Refused(_) => false,
-        Answer::Quiet => false,
-        Answer::Recovered(_) => false,
-        Answer::Passed(_) => true,
-        Answer::Unanswered(_) => false,
-        Answer::TokenLost => false,
-        Answer::Held(_) => false,
-    }
+    matches!(answer, Answer::Passed(_))
 }
 
 // The nodes on line among the first n rows.
@@ -81,16 +60,14 @@ fn online(net: &[u8], n: usize) -> usize
 }
 
 // SHAPE, BUSY, ALONE and ROOM, in a list of `room` entries.
-fn lap_number(net: &[u8], room: usize) -> u8
-    ensures { result ≡ lap_number net.now room }
+fn may_lap(net: &[u8], room: usize) -> Result<(), Refusal>
+    ensures { number result ≡ lap_number net.now room }
 {
-    if !shape(net) {
-        return SHAPE;
-    }
+    Refusal::Shape.when(!shape(net))?;
     let nodes = online(net, rows(net));
-    let n = refuse(DONE, BUSY, phase(net) != LOST);
-    let n = refuse(n, ALONE, nodes < 2);
-    refuse(n, ROOM, room < nodes)
+    Refusal::Busy.when(phase(net) != LOST)?;
+    Refusal::Alone.when(nodes < 2)?;
+    Refusal::Room.when(room < nodes)
 }
 
 // A list of takers with nobody in it yet.
@@ -109,82 +86,59 @@ fn run(net: &mut [u8]) -> Walked
     requires shaped { shape net.old ≡ true }
     requires lost { phase net.old ≡ LOST }
     requires two { 2 ≤ nodes net.old }
-    ensures answer { result.lapped ≡ record { number = 0; total = invitations (answers (lap_steps net.old) net.old) } }
+    ensures total { result.total ≡ invitations (answers (lap_steps net.old) net.old) }
     ensures count { result.n ≡ nodes net.old }
     ensures list { take result.n result.list ≡ takers net.old 0 (answers (lap_steps net.old) net.old) }
     ensures bytes { net.new ≡ after (lap_steps net.old) net.old }
     ensures rest { drop result.n result.list ≡ drop result.n nobody }
 {
     let first = step_on(net, 0).value();
-    let mut list = nobody();
-    let mut n = 0;
+    let mut walk = Walked {
+        total: 0,
+        n: 0,
+        list: nobody(),
+    };
     let mut since = 0;
-    let mut total = 0;
     let mut back = false;
     while !back {
         let answer = step_on(net, 0);
         if invitation(answer) {
             since += 1;
-            total += 1;
+            walk.total += 1;
         }
         if passed(answer) {
             let row = answer.value();
-            list[n] = Taker {
+            walk.list[walk.n] = Taker {
                 id: regs_at(net, row).id,
                 row: row as u8,
                 invitations: since,
             };
-            n += 1;
+            walk.n += 1;
             since = 0;
             back = row == first;
         }
     }
-    Walked {
-        lapped: Lapped {
-            number: DONE,
-            total,
-        },
-        n,
-        list,
-    }
+    walk
 }
 
-// The lap, for a list of `room` entries; the entries past n are nobody's.
-pub fn walk(net: &mut [u8], room: usize) -> Walked
-    ensures walks { Walks net.old room result.n result.list result.lapped net.new }
-    ensures total { result.lapped.number ≡ 0 → result.lapped.total ≡ 256 + nodes net.old }
+// The lap, for a list of `room` entries.
+pub fn walk(net: &mut [u8], room: usize) -> Result<Walked, Refusal>
+    ensures walks { Walks net.old room (walked_count result) (walked_list result) (lapping (walked_total result)) net.new }
+    ensures total { IfOk result (λ w. w.total ≡ 256 + nodes net.old) }
 {
-    let number = lap_number(net, room);
-    if number != DONE {
-        return Walked {
-            lapped: Lapped { number, total: 0 },
-            n: 0,
-            list: nobody(),
-        };
-    }
-    run(net)
+    may_lap(net, room)?;
+    Ok(run(net))
 }
 
-// The first n of the list go to the lent entries; the others stay.
-fn fill(takers: &mut [Taker], list: [Taker; ROWS], n: usize)
-    requires { (n ≤ row_limit) × (n ≤ length takers.old) }
-    ensures { takers.new ≡ take n list ++ drop n takers.old }
-{
-    let mut i = 0;
-    while i < n {
-        takers[i] = list[i];
-        i += 1;
-    }
-}
-
-// The lap call: fault-free steps from LOST until the first holder has the token again, and an entry for each taker.
-pub fn lap(net: &mut [u8], takers: &mut [Taker]) -> Lapped
-    ensures value { (result ≡ lapped net.old (length takers.old))
+// The lap call: fault-free steps from LOST until the first holder has the token again, and an entry for each taker; the
+// entries past them stay.
+pub fn lap(net: &mut [u8], takers: &mut [Taker]) -> Result<u16, Refusal>
+    ensures value { (lapping result ≡ lapped net.old (length takers.old))
         × (net.new ≡ net_after_lap net.old (length takers.old))
         × (takers.new ≡ list_after_lap net.old takers.old) }
-    ensures total { result.number ≡ 0 → result.total ≡ 256 + nodes net.old }
+    ensures total { IfOk result (λ total. total ≡ 256 + nodes net.old) }
 {
-    let w = walk(net, takers.len());
-    fill(takers, w.list, w.n);
-    w.lapped
+    let walk = walk(net, takers.len())?;
+    takers[..walk.n].copy_from_slice(&walk.list[..walk.n]);
+    Ok(walk.total)
 }

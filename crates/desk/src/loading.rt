@@ -1,12 +1,12 @@
 // Document 01, "Order forms and the lap": loading.
 ghost use Rattle.std.specs.Prelude.{◌≡◌, true, ◌<◌};
 ghost use Rattle.table.specs.Network.{rows, shape};
+ghost use Rattle.orders.specs.Check.{verdict};
 ghost use Rattle.desk.specs.Load.{loaded_row, loading, net_after_load};
 
-use orders::check::{Checked, check};
+use orders::check::{Bad, check};
 use orders::form::{LONG, RECEIVE, flags_at, id_at, records};
 use table::calls::{fresh, write_on};
-use told::numbers::DONE;
 
 // The registers that are written.
 const COMMAND: usize = 1;
@@ -32,35 +32,32 @@ fn load_row(net: &mut [u8], k: usize, id: u8, flags: u8)
     requires row { k < rows net.old }
     ensures { net.new ≡ loaded_row net.old k id flags }
 {
-    write_on(net, k, CONFIGURATION, NODE_ID);
-    write_on(net, k, SEVENTH, id);
+    let _ = write_on(net, k, CONFIGURATION, NODE_ID);
+    let _ = write_on(net, k, SEVENTH, id);
     if flags & LONG != 0 {
-        write_on(net, k, COMMAND, LONG_PACKETS);
+        let _ = write_on(net, k, COMMAND, LONG_PACKETS);
     }
     if flags & RECEIVE != 0 {
-        write_on(net, k, COMMAND, ENABLE_RECEIVE);
+        let _ = write_on(net, k, COMMAND, ENABLE_RECEIVE);
     }
-    write_on(net, k, CONFIGURATION, ON_LINE);
+    let _ = write_on(net, k, CONFIGURATION, ON_LINE);
 }
 
 // The network is made anew from the order, a row for each record: row k carries record k's ID.
-pub fn load(order: &[u8], net: &mut [u8]) -> Checked
-    ensures told { result ≡ loading order.now net.old }
+pub fn load(order: &[u8], net: &mut [u8]) -> Result<(), Bad>
+    ensures told { verdict result ≡ loading order.now net.old }
     ensures bytes { net.new ≡ net_after_load order.now net.old }
 {
-    let checked = check(order);
-    if checked.number != DONE {
-        return checked;
-    }
+    check(order)?;
     let n = records(order);
-    let number = fresh(net, n);
-    if number != DONE {
-        return Checked { number, bad: 0 };
+    if let Err(refusal) = fresh(net, n) {
+        return Err(Bad {
+            refusal,
+            record: None,
+        });
     }
-    let mut k = 0;
-    while k < n {
+    for k in 0..n {
         load_row(net, k, id_at(order, k), flags_at(order, k));
-        k += 1;
     }
-    checked
+    Ok(())
 }

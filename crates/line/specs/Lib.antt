@@ -1,3 +1,4 @@
 pub mod Traffic
+pub mod Answers
 pub mod Step
 pub mod Outcomes

@@ -4,8 +4,7 @@ use Rattle.std.specs.Prelude.{Bool, true, false, not, List, [], ◌∷◌, ℕ, 
 use Rattle.line.specs.declared.passes.Event.TheVariants.{Recovery, Message, Taken}
 use Rattle.line.specs.declared.traffic.Outcome.{Outcome}
 use Rattle.line.specs.declared.traffic.Outcome.TheVariants.{Nothing, Malformed, Broadcast, NoAnswer, Nak, Delivered, Unacknowledged}
-use Rattle.line.specs.declared.step.Answer.{Answer}
-use Rattle.line.specs.declared.step.Answer.TheVariants.{Refused, Quiet, Recovered, Passed, Unanswered, TokenLost, Held}
+use Rattle.line.specs.Answers.{Answer, Refused, Quiet, Recovered, Passed, Unanswered, TokenLost, Held}
 use Rattle.bits.specs.Words.{pick}
 use Rattle.told.specs.Numbers.{SHAPE, VALUE, Refusal, ◌when◌, told}
 use Rattle.registers.specs.Events.{risen_nid}

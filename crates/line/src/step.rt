@@ -1,19 +1,20 @@
 // Document 01, "One line step".
 ghost use Rattle.std.specs.Prelude.{◌≡◌, true, ◌<◌};
 ghost use Rattle.table.specs.Network.{rows, holder, shape};
-ghost use Rattle.line.specs.Step.{answer_number, answer_value, lost_turn, pass_turn, step_turn, step_number, step};
+ghost use Rattle.told.specs.Refusals.{number};
+ghost use Rattle.line.specs.Answers.{said, answered};
+ghost use Rattle.line.specs.Step.{answer_value, lost_turn, pass_turn, step_turn, step_number, step};
 
 use crate::passes::{Event, happen};
 use crate::traffic::{Outcome, taken};
 use table::network::{
     LOST, PASS, TAKEN, holder, node_of, phase, put_regs, regs_at, rows, shape, top_id, turn, wide,
 };
-use told::numbers::{DONE, SHAPE, VALUE, refuse};
+use told::refusals::Refusal;
 
 // What a step answers. A row is given by its number, from 0; `Unanswered` names the ID that was invited.
 #[derive(Clone, Copy)]
 pub enum Answer {
-    Refused(u8),
     Quiet,
     Recovered(usize),
     Passed(usize),
@@ -23,33 +24,15 @@ pub enum Answer {
 }
 
 impl Answer {
-    // The answer's number in the table of refusals: 0, DONE, unless it is a refusal.
-    pub fn number(self) -> u8
-        ensures { result ≡ answer_number self }
-    {
-        match self {
-            Answer::Refused(number) => number,
-            Answer::Quiet => 0,
-            Answer::Recovered(_) => 0,
-            Answer::Passed(_) => 0,
-            Answer::Unanswered(_) => 0,
-            Answer::TokenLost => 0,
-            Answer::Held(_) => 0,
-        }
-    }
-
     // The row, or the ID, that the answer names; 0 where it names none.
     pub fn value(self) -> usize
-        ensures { result ≡ answer_value self }
+        ensures { result ≡ answer_value (said self) }
     {
         match self {
-            Answer::Refused(_) => 0,
-            Answer::Quiet => 0,
-            Answer::Recovered(row) => row,
-            Answer::Passed(row) => row,
+            Answer::Recovered(row) | Answer::Passed(row) => row,
             Answer::Unanswered(id) => wide(id),
-            Answer::TokenLost => 0,
             Answer::Held(o) => o.row(),
+            Answer::Quiet | Answer::TokenLost => 0,
         }
     }
 }
@@ -57,15 +40,16 @@ impl Answer {
 #[tactic(auto, using(crate::proofs::Rooms::rooms, table::proofs::Online::Nodes::node_of_most), unfolding(crate::specs::Step::lost_turn, crate::specs::Traffic::happened))]
 fn lost(net: &mut [u8]) -> Answer
     requires { shape net.old ≡ true }
-    ensures answer { result ≡ (lost_turn net.old).answer }
+    ensures answer { said result ≡ (lost_turn net.old).answer }
     ensures bytes { net.new ≡ (lost_turn net.old).after }
 {
     let n = rows(net);
-    let top = top_id(net, n);
-    if top == 0 {
+    let Some(top) = top_id(net, n) else {
         return Answer::Quiet;
-    }
-    let first = node_of(net, top, n, n);
+    };
+    let Some(first) = node_of(net, top, n, n) else {
+        return Answer::Quiet;
+    };
     happen(net, n, Event::Recovery);
     turn(net, PASS, first as u8);
     Answer::Recovered(first)
@@ -75,7 +59,7 @@ fn lost(net: &mut [u8]) -> Answer
 fn pass(net: &mut [u8], fault: usize) -> Answer
     requires net_value { shape net.old ≡ true }
     requires net_bound { holder net.old < rows net.old }
-    ensures answer { result ≡ (pass_turn net.old fault).answer }
+    ensures answer { said result ≡ (pass_turn net.old fault).answer }
     ensures bytes { net.new ≡ (pass_turn net.old fault).after }
 {
     let n = rows(net);
@@ -86,9 +70,9 @@ fn pass(net: &mut [u8], fault: usize) -> Answer
         return Answer::TokenLost;
     }
     let id = regs_at(net, h).nid;
-    let t = node_of(net, id, h, n);
+    let taker = node_of(net, id, h, n);
     happen(net, n, Event::Message(h, true));
-    if t < n {
+    if let Some(t) = taker {
         happen(net, n, Event::Taken(id, t));
         turn(net, TAKEN, t as u8);
         return Answer::Passed(t);
@@ -102,7 +86,7 @@ fn pass(net: &mut [u8], fault: usize) -> Answer
 #[tactic(auto, using(crate::proofs::Rooms::rooms, crate::proofs::Steps::Stepped::held_row), unfolding(crate::specs::Step::step_turn))]
 pub fn step_on(net: &mut [u8], fault: usize) -> Answer
     requires { shape net.old ≡ true }
-    ensures answer { result ≡ (step_turn net.old fault).answer }
+    ensures answer { said result ≡ (step_turn net.old fault).answer }
     ensures bytes { net.new ≡ (step_turn net.old fault).after }
 {
     let now = phase(net);
@@ -119,23 +103,20 @@ pub fn step_on(net: &mut [u8], fault: usize) -> Answer
 }
 
 // SHAPE and VALUE.
-#[tactic(auto, unfolding(crate::specs::Step::step_number, crate::specs::Step::step_refusals))]
-fn step_number(net: &[u8], fault: usize) -> u8
-    ensures { result ≡ step_number net.now fault }
+#[tactic(auto, using(told::proofs::Told::Results::handed_number, told::proofs::Told::Results::stands), unfolding(crate::specs::Step::step_number, crate::specs::Step::step_refusals))]
+fn may_step(net: &[u8], fault: usize) -> Result<(), Refusal>
+    ensures { number result ≡ step_number net.now fault }
 {
-    let n = refuse(DONE, SHAPE, !shape(net));
-    refuse(n, VALUE, 3 < fault)
+    Refusal::Shape.when(!shape(net))?;
+    Refusal::Value.when(3 < fault)
 }
 
 // One line step.
 #[tactic(auto, using(crate::proofs::Steps::Stepped::step_shape), unfolding(crate::specs::Step::step))]
-pub fn step(net: &mut [u8], fault: usize) -> Answer
-    ensures answer { result ≡ (step net.old fault).answer }
+pub fn step(net: &mut [u8], fault: usize) -> Result<Answer, Refusal>
+    ensures answer { answered result ≡ (step net.old fault).answer }
     ensures bytes { net.new ≡ (step net.old fault).after }
 {
-    let number = step_number(net, fault);
-    if number != DONE {
-        return Answer::Refused(number);
-    }
-    step_on(net, fault)
+    may_step(net, fault)?;
+    Ok(step_on(net, fault))
 }

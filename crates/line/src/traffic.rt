@@ -92,19 +92,20 @@ fn asked(net: &mut [u8], h: usize, nak: bool)
     put_regs(net, h, g);
 }
 
-// An enquiry goes to row t; no row has the ID where t is not below the number of rows.
+// An enquiry goes to row t, where a row has the ID.
 #[tactic(auto, using(crate::proofs::Rooms::rooms), unfolding(crate::specs::Traffic::enquiry_turn))]
-fn enquire(net: &mut [u8], h: usize, page: usize, fault: usize, t: usize) -> Outcome
+fn enquire(net: &mut [u8], h: usize, page: usize, fault: usize, to: Option<usize>) -> Outcome
     requires net_value { shape net.old ≡ true }
     requires h_bound { h < rows net.old }
     requires page_bound { page < 4 }
-    ensures answer { result ≡ (enquiry_turn net.old h page fault t).answer }
-    ensures bytes { net.new ≡ (enquiry_turn net.old h page fault t).after }
+    requires to_bound { IfSome to (λ t. t < rows net.old) }
+    ensures answer { result ≡ (enquiry_turn net.old h page fault (or_else (rows net.old) to)).answer }
+    ensures bytes { net.new ≡ (enquiry_turn net.old h page fault (or_else (rows net.old) to)).after }
 {
-    if rows(net) <= t {
+    let Some(t) = to else {
         asked(net, h, false);
         return Outcome::NoAnswer;
-    }
+    };
     if regs_at(net, t).receiving() {
         return deliver(net, h, page, fault, t);
     }

@@ -1,11 +1,12 @@
 -- C-12: what is wrong with an order, and with which record.
 -- Assumes nothing.
-use Rattle.std.specs.Prelude.{Bool, not, List, [], ◌∷◌, ◌++◌, ℕ, ◌+◌, eqb, ltb}
+use Rattle.std.specs.Prelude.{Bool, not, Option, Some, None, Result, Ok, Err, List, [], ◌∷◌, ◌++◌, ℕ, ◌+◌, eqb, ltb}
 use Rattle.bits.specs.Words.{pick}
 use Rattle.told.specs.Numbers.{DONE, LENGTH, MARK, ORDER_ID, FLAGS, NAME, TWICE, Refusal, ◌when◌, told}
 use Rattle.table.specs.Folds.{seek}
 use Rattle.orders.specs.Form.{records, record_at, length_fits, marked, id_fits, flags_fit, name_fits, repeats}
-use Rattle.orders.specs.declared.check.Checked.{Checked}
+use Rattle.told.specs.Refusals.{number_of}
+use Rattle.orders.specs.declared.check.Bad as code
 
 -- "MARK 15, ORDER-ID 16, FLAGS 17, NAME 18, TWICE 19, tested in that order within a record": of a record by itself, and of record k of an order
 abbrev pub form_refusals : List ℕ → List Refusal
@@ -28,7 +29,20 @@ refused order k = not (eqb (record_number order k) DONE)
 unfoldable pub first_bad : List ℕ → ℕ
 first_bad order = seek (refused order) (records order)
 
--- the number, and "the record number, from 1"; "LENGTH before all", and "LENGTH has none"
+-- what is told of an order: the number, and "the record number, from 1", 0 where it names none
+pub record Checked : Type 0 where
+  pub number : ℕ
+  pub bad : ℕ
+
+abbrev pub record_from_1 : Option ℕ → ℕ
+record_from_1 None = 0
+record_from_1 (Some k) = k + 1
+
+abbrev pub verdict : Result Unit code.Bad → Checked
+verdict (Ok u) = record { number = DONE; bad = 0 }
+verdict (Err e) = record { number = number_of e.refusal; bad = record_from_1 e.record }
+
+-- "LENGTH before all", and "LENGTH has none"
 abbrev pub tells : ℕ → ℕ → Checked
 tells number bad = record { number = number; bad = bad }
 

@@ -1,7 +1,7 @@
 // Document 01, "Order forms and the lap": the order form.
 ghost use Rattle.std.specs.Prelude.{◌≡◌, ◌+◌, ◌*◌, ◌≤◌, ◌<◌, eqb, length};
 ghost use Rattle.places.specs.Places.{onward};
-ghost use Rattle.table.specs.Folds.{seek};
+ghost use Rattle.table.specs.Folds.{seek, below};
 ghost use Rattle.orders.specs.Form.{record_bytes, records, record_at, id_at, flags_of, printables, name_from, name_at};
 
 pub const RECORD: usize = 16;
@@ -65,20 +65,13 @@ pub fn printable(name: &[u8]) -> bool
     true
 }
 
-// The first record with this ID among the first n; n where there is none.
+// The first record with this ID among the first n.
 #[tactic(auto, using(table::proofs::Folds::seek_none, table::proofs::Folds::seek_here, table::proofs::Folds::seek_more))]
-pub fn record_of(order: &[u8], id: u8, n: usize) -> usize
+pub fn record_of(order: &[u8], id: u8, n: usize) -> Option<usize>
     requires { record_bytes * n ≤ length order.now }
-    ensures { result ≡ seek (λ k. eqb (id_at order.now k) id) n }
+    ensures { result ≡ below n (seek (λ k. eqb (id_at order.now k) id) n) }
 {
-    let mut k = 0;
-    while k < n {
-        if id_at(order, k) == id {
-            return k;
-        }
-        k += 1;
-    }
-    n
+    (0..n).find(|&k| id_at(order, k) == id)
 }
 
 // The station name of record k without its trailing spaces; nothing where there is no such record.

@@ -14,7 +14,7 @@ use Rattle.bits.proofs.Words.Bools.{cases}
 use Rattle.told.specs.Numbers.{DONE, ROOM, ◌when◌, told}
 use Rattle.told.proofs.Told.Smallest.{refuse_held, refuse_passed, refuse_stays}
 use Rattle.table.specs.Calls.{exact_length}
-use Rattle.orders.specs.declared.check.Checked.{Checked}
+use Rattle.orders.specs.Check.{Checked}
 use Rattle.orders.specs.Form.{records, order_fits}
 use Rattle.orders.specs.Check.{record_numbers, record_number, checked}
 use Rattle.orders.proofs.Checks.Told.{tells_length}

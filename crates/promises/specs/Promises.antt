@@ -11,7 +11,7 @@ use Rattle.told.specs.Numbers.{ALONE, ROOM, numbers, Refusal, ◌when◌, told, 
 use Rattle.card.specs.Packets.{shape_of, data_bytes, CanBeSent, malformed}
 use Rattle.card.specs.Moves.{OnlyAt}
 use Rattle.line.specs.declared.traffic.Outcome.{Outcome}
-use Rattle.line.specs.declared.step.Answer.TheVariants.{Held}
+use Rattle.line.specs.Answers.{Held}
 use Rattle.table.specs.Rows.{header_bytes, row_at}
 use Rattle.table.specs.Network.{rows, phase, holder, Bytes, TAKEN, regs_at, shape, SameFrame, OnlyRow, LOST, on_line_at}
 use Rattle.table.specs.Calls.{place_refusals, place_number, net_read_refusals, net_reading, net_after_read, net_write_refusals, net_write_number, net_write_moves, net_after_write, reset_moves, net_after_reset, timer_refusals, timer_number, net_after_timer, net_interrupt, net_data, net_data_refusals, net_data_number, fresh_refusals, fresh_number, net_after_fresh}

@@ -12,7 +12,7 @@ use Rattle.table.specs.Rows.{row_at}
 use Rattle.table.specs.Network.{Bytes, rows, holder, regs_at, is_node, shape, SameNodes}
 use Rattle.table.specs.Calls.{net_data, net_data_number}
 use Rattle.line.specs.declared.traffic.Outcome.TheVariants.{Broadcast, Delivered}
-use Rattle.line.specs.declared.step.Answer.TheVariants.{Held}
+use Rattle.line.specs.Answers.{Held}
 use Rattle.line.specs.Traffic.{damaged}
 use Rattle.line.specs.Step.{step}
 use Rattle.line.specs.Outcomes.{sender, sent_page, sent_shape, sent_to, stores}

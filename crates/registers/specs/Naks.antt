@@ -1,9 +1,9 @@
 -- C-16, "Who refused": the NAKs to one Enable, which the sender counts, and EXCNAK.
 -- Assumes nothing.
-use Rattle.std.specs.Prelude.{Bool, false, ◌&&◌, ◌||◌, List, [], ◌∷◌, ℕ, ◌+◌, ◌*◌, eqb, leb, ltb}
+use Rattle.std.specs.Prelude.{Option, Some, None, Bool, false, ◌&&◌, ◌||◌, List, [], ◌∷◌, ℕ, ◌+◌, ◌*◌, eqb, leb, ltb}
 use Rattle.registers.specs.declared.regs.Regs.{Regs}
 use Rattle.commands.specs.declared.commands.Command.{Command}
-use Rattle.commands.specs.declared.commands.Command.TheVariants.{Illegal, Disable, Enable, LongPackets, ClearFlags, Clear}
+use Rattle.commands.specs.declared.commands.Command.TheVariants.{Disable, Enable, LongPackets, ClearFlags, Clear}
 use Rattle.bits.specs.Words.{pick, clear, has, raise_if, lower}
 use Rattle.bits.specs.Flags.{TA, EXCNAK, RESET}
 use Rattle.commands.specs.Commands.{command_of}
@@ -37,13 +37,13 @@ naks_dropped b g =
     with_diagnostic (pick b (lower EXCNAK g.diagnostic) g.diagnostic) (with_naks (pick b 0 g.later.naklow) (pick b 0 g.later.nakhigh) g)
 
 -- the writes that do so: "Clear Flags with bit 3 or reset"
-abbrev pub drops_command : Command → Bool
-drops_command Illegal = false
-drops_command (Disable w) = false
-drops_command (Enable w entry) = false
-drops_command (LongPackets l) = false
-drops_command (ClearFlags p r) = p
-drops_command (Clear w) = false
+abbrev pub drops_command : Option Command → Bool
+drops_command None = false
+drops_command (Some (Disable w)) = false
+drops_command (Some (Enable w entry)) = false
+drops_command (Some (LongPackets l)) = false
+drops_command (Some (ClearFlags p r)) = p
+drops_command (Some (Clear w)) = false
 
 abbrev pub drops_naks : ℕ → ℕ → Bool
 drops_naks k v = eqb k 1 && drops_command (command_of v) || eqb k 6 && has RESET v

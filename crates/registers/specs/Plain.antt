@@ -1,10 +1,10 @@
 -- C-11: "Statements about rows with CCHEN 0 read as before": the definitions of document 01, with C-16, and that those in use are these for such a row.
 -- Assumes nothing.
-use Rattle.std.specs.Prelude.{◌≡◌, Bool, true, false, not, ◌&&◌, ◌||◌, List, [], ◌∷◌, ℕ, ◌+◌, ◌%◌, ◌<◌, eqb}
+use Rattle.std.specs.Prelude.{Option, Some, None, ◌≡◌, Bool, true, false, not, ◌&&◌, ◌||◌, List, [], ◌∷◌, ℕ, ◌+◌, ◌%◌, ◌<◌, eqb}
 use Rattle.registers.specs.declared.regs.Regs.{Regs}
 use Rattle.bits.specs.declared.way.Way.TheVariants.{Transmit, Receive}
 use Rattle.commands.specs.declared.commands.Command.{Command}
-use Rattle.commands.specs.declared.commands.Command.TheVariants.{Illegal, Disable, Enable, LongPackets, ClearFlags, Clear}
+use Rattle.commands.specs.declared.commands.Command.TheVariants.{Disable, Enable, LongPackets, ClearFlags, Clear}
 use Rattle.bits.specs.Words.{pick, all, among, clear, has, raise, lower}
 use Rattle.bits.specs.Flags.{RI, POR, RECON, TMA, TA, EXCNAK, RESET, CCHEN, RDDATA, CANCEL, BROADCASTS, only, mask_bits, setup_bits, mode_bits, transmit_bits, receive_bits}
 use Rattle.told.specs.Numbers.{REGISTER, VALUE, NOTREADY, DIRECTION, BUSY, ONLINE, PAGE, Refusal, ◌when◌}
@@ -40,15 +40,15 @@ plain_configured g v = with_configuration v (pick (clear RESET v) g (plain_reset
 -- "01 Disable Transmitter and 02 Disable Receiver: ask a cancel (no effect if TA, or RI, is 1). .. Enable Transmit: TA and TMA to 0, byte 13
 -- to the page. .. Enable Receive: RI to 0; the top bit wants broadcasts. .. 05, 0D long packets 0, 1. .. Clear Flags: bit 3 clears POR, bit 4 RECON";
 -- C-16: bit 3 also the count and EXCNAK. 00 and 08 are no commands
-abbrev pub plain_commanded : Regs → Command → Regs
-plain_commanded g Illegal = g
-plain_commanded g (Disable Transmit) = with_oldest_transmit (pick (has TA g.status) g.transmit.oldest (raise CANCEL g.transmit.oldest)) g
-plain_commanded g (Disable Receive) = with_oldest_receive (pick (has RI g.status) g.receive.oldest (raise CANCEL g.receive.oldest)) g
-plain_commanded g (Enable Transmit p) = with_status (lower (TA + TMA) g.status) (with_oldest_transmit p g)
-plain_commanded g (Enable Receive p) = with_status (lower RI g.status) (with_oldest_receive p g)
-plain_commanded g (LongPackets l) = with_long l g
-plain_commanded g (ClearFlags p r) = with_status (lower (pick p POR 0) (lower (pick r RECON 0) g.status)) (naks_dropped p g)
-plain_commanded g (Clear w) = g
+abbrev pub plain_commanded : Regs → Option Command → Regs
+plain_commanded g None = g
+plain_commanded g (Some (Disable Transmit)) = with_oldest_transmit (pick (has TA g.status) g.transmit.oldest (raise CANCEL g.transmit.oldest)) g
+plain_commanded g (Some (Disable Receive)) = with_oldest_receive (pick (has RI g.status) g.receive.oldest (raise CANCEL g.receive.oldest)) g
+plain_commanded g (Some (Enable Transmit p)) = with_status (lower (TA + TMA) g.status) (with_oldest_transmit p g)
+plain_commanded g (Some (Enable Receive p)) = with_status (lower RI g.status) (with_oldest_receive p g)
+plain_commanded g (Some (LongPackets l)) = with_long l g
+plain_commanded g (Some (ClearFlags p r)) = with_status (lower (pick p POR 0) (lower (pick r RECON 0) g.status)) (naks_dropped p g)
+plain_commanded g (Some (Clear w)) = g
 
 -- "RI = 1, byte 14 zero"
 abbrev pub plain_received : Regs → Regs
@@ -75,14 +75,14 @@ plain_bad_value g k v =
     || eqb k 7 && eqb (sub g) 2 && not (only setup_bits v)
 
 -- "7 BUSY: Enable with TA (RI) 0; 05 or 0D with TA or RI 0"
-abbrev pub plain_busy : Regs → Command → Bool
-plain_busy g Illegal = false
-plain_busy g (Disable w) = false
-plain_busy g (Enable Transmit p) = clear TA g.status
-plain_busy g (Enable Receive p) = clear RI g.status
-plain_busy g (LongPackets l) = clear TA g.status || clear RI g.status
-plain_busy g (ClearFlags p r) = false
-plain_busy g (Clear w) = false
+abbrev pub plain_busy : Regs → Option Command → Bool
+plain_busy g None = false
+plain_busy g (Some (Disable w)) = false
+plain_busy g (Some (Enable Transmit p)) = clear TA g.status
+plain_busy g (Some (Enable Receive p)) = clear RI g.status
+plain_busy g (Some (LongPackets l)) = clear TA g.status || clear RI g.status
+plain_busy g (Some (ClearFlags p r)) = false
+plain_busy g (Some (Clear w)) = false
 
 abbrev pub plain_write_refusals : Regs → ℕ → ℕ → List Refusal
 plain_write_refusals g k v =
@@ -116,9 +116,9 @@ pub record Plain (g : Regs) : Type 0 where
   pub received : received g ≡ plain_received g
   pub sent : (acknowledged : Bool) → sent g acknowledged ≡ plain_sent g acknowledged
   pub cancelled : cancelled g ≡ plain_receive_cancelled (plain_transmit_cancelled g)
-  pub commanded : (c : Command) → commanded g c ≡ plain_commanded g c
+  pub commanded : (c : Option Command) → commanded g c ≡ plain_commanded g c
   pub legal : (v : ℕ) → v < 256 → illegal (chaining g) (command_of v) ≡ not (among legal_bytes v)
-  pub busy : (c : Command) → busy g c ≡ plain_busy g c
+  pub busy : (c : Option Command) → busy g c ≡ plain_busy g c
   pub refusals : (k v : ℕ) → v < 256 → (eqb k 6 && has CCHEN v) ≡ false → write_refusals g k v ≡ plain_write_refusals g k v
   pub configured : (v : ℕ) → clear CCHEN v ≡ true → configured g v ≡ plain_configured g v
   pub fit : fit g ≡ plain_fit g

@@ -1,9 +1,9 @@
 -- Document 01, "Numbers a caller may get": the refusals of a register access.
 -- Assumes nothing.
-use Rattle.std.specs.Prelude.{Bool, false, not, ◌&&◌, ◌||◌, List, [], ◌∷◌, ℕ, eqb, ltb}
+use Rattle.std.specs.Prelude.{Option, Some, None, Bool, false, not, ◌&&◌, ◌||◌, List, [], ◌∷◌, ℕ, eqb, ltb}
 use Rattle.registers.specs.declared.regs.Regs.{Regs}
 use Rattle.commands.specs.declared.commands.Command.{Command}
-use Rattle.commands.specs.declared.commands.Command.TheVariants.{Illegal, Disable, Enable, LongPackets, ClearFlags, Clear}
+use Rattle.commands.specs.declared.commands.Command.TheVariants.{Disable, Enable, LongPackets, ClearFlags, Clear}
 use Rattle.bits.specs.Words.{clear, has}
 use Rattle.bits.specs.Flags.{RI, TA, RDDATA, only, mask_bits, setup_bits, mode_bits}
 use Rattle.told.specs.Numbers.{REGISTER, VALUE, NOTREADY, DIRECTION, BUSY, ONLINE, PAGE, Refusal, ◌when◌, told}
@@ -24,26 +24,26 @@ bad_value g k v =
     || eqb k 7 && eqb (sub g) 2 && not (only setup_bits v)
 
 -- "7 BUSY: Enable with TA (RI) 0", in a chaining row with two waiting; "05 or 0D with TA or RI 0"
-abbrev pub busy : Regs → Command → Bool
-busy g Illegal = false
-busy g (Disable w) = false
-busy g (Enable w entry) = full w (chaining g) (side_of w g)
-busy g (LongPackets l) = clear TA g.status || clear RI g.status
-busy g (ClearFlags p r) = false
-busy g (Clear w) = false
+abbrev pub busy : Regs → Option Command → Bool
+busy g None = false
+busy g (Some (Disable w)) = false
+busy g (Some (Enable w entry)) = full w (chaining g) (side_of w g)
+busy g (Some (LongPackets l)) = clear TA g.status || clear RI g.status
+busy g (Some (ClearFlags p r)) = false
+busy g (Some (Clear w)) = false
 
 -- C-11: "changing CCHEN with work waiting is BUSY"
 abbrev pub chain_busy : Regs → ℕ → Bool
 chain_busy g v = changes_chaining g v && (clear TA g.status || clear RI g.status)
 
 -- "9 PAGE: Enable with f = 1 and long packets 1"
-abbrev pub odd_page : Regs → Command → Bool
-odd_page g Illegal = false
-odd_page g (Disable w) = false
-odd_page g (Enable w entry) = has 1 entry && eqb g.long 1
-odd_page g (LongPackets l) = false
-odd_page g (ClearFlags p r) = false
-odd_page g (Clear w) = false
+abbrev pub odd_page : Regs → Option Command → Bool
+odd_page g None = false
+odd_page g (Some (Disable w)) = false
+odd_page g (Some (Enable w entry)) = has 1 entry && eqb g.long 1
+odd_page g (Some (LongPackets l)) = false
+odd_page g (Some (ClearFlags p r)) = false
+odd_page g (Some (Clear w)) = false
 
 -- "6 DIRECTION: register 4 read with RDDATA 0 .."
 unfoldable pub read_refusals : Regs → ℕ → List Refusal

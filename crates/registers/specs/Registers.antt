@@ -1,10 +1,10 @@
 -- Document 01, "Registers": what reading and writing give, the resets, the commands' effects and the interrupt.
 -- Assumes nothing.
-use Rattle.std.specs.Prelude.{Bool, not, ◌&&◌, ◌||◌, ℕ, ◌+◌, ◌*◌, ◌/◌, ◌%◌, eqb}
+use Rattle.std.specs.Prelude.{Option, Some, None, Bool, not, ◌&&◌, ◌||◌, ℕ, ◌+◌, ◌*◌, ◌/◌, ◌%◌, eqb}
 use Rattle.std.specs.Int.Bits.{bit_and, bit_or}
 use Rattle.registers.specs.declared.regs.Regs.{Regs}
 use Rattle.commands.specs.declared.commands.Command.{Command}
-use Rattle.commands.specs.declared.commands.Command.TheVariants.{Illegal, Disable, Enable, LongPackets, ClearFlags, Clear}
+use Rattle.commands.specs.declared.commands.Command.TheVariants.{Disable, Enable, LongPackets, ClearFlags, Clear}
 use Rattle.bits.specs.Words.{pick, clear, has, raise_if, lower}
 use Rattle.bits.specs.Flags.{RI, POR, RECON, TMA, TA, TRI, shown_ri, shown_ta, TTA, EXCNAK, RESET, CCHEN, RDDATA, AUTO_INC}
 use Rattle.registers.specs.Fields.{with_id, with_status, with_diagnostic, with_mask, with_configuration, with_setup, with_tentative, with_high, with_low, with_mode, with_transmit, with_receive, with_long, with_fetched, with_naks}
@@ -116,13 +116,13 @@ interrupt g =
 -- "01 Disable Transmitter and 02 Disable Receiver: ask a cancel .. Enable Transmit: .. byte 13 to the page. .. Enable Receive: .. the top bit wants broadcasts.
 -- .. 05, 0D long packets 0, 1. .. Clear Flags: bit 3 clears POR, bit 4 RECON"; C-11: "Clear Transmit Interrupt (00) or Clear Receive Interrupt (08)";
 -- C-16: "Clear Flags with bit 3 .. clears bit and count"
-unfoldable pub commanded : Regs → Command → Regs
-commanded g Illegal = g
-commanded g (Disable w) = with_side w (disabled w (side_of w g)) g
-commanded g (Enable w entry) = with_side w (enabled w (chaining g) entry (side_of w g)) g
-commanded g (LongPackets l) = with_long l g
-commanded g (ClearFlags p r) = with_status (lower (pick p POR 0) (lower (pick r RECON 0) g.status)) (naks_dropped p g)
-commanded g (Clear w) = with_side w (cleared w (side_of w g)) g
+unfoldable pub commanded : Regs → Option Command → Regs
+commanded g None = g
+commanded g (Some (Disable w)) = with_side w (disabled w (side_of w g)) g
+commanded g (Some (Enable w entry)) = with_side w (enabled w (chaining g) entry (side_of w g)) g
+commanded g (Some (LongPackets l)) = with_long l g
+commanded g (Some (ClearFlags p r)) = with_status (lower (pick p POR 0) (lower (pick r RECON 0) g.status)) (naks_dropped p g)
+commanded g (Some (Clear w)) = with_side w (cleared w (side_of w g)) g
 
 -- a write of the node ID
 unfoldable pub writes_id : Regs → ℕ → Bool

@@ -162,25 +162,25 @@ impl Regs {
         g
     }
 
-    // A command's effect.
+    // A command's effect; a byte that is no command has none.
     #[tactic(auto, unfolding(crate::specs::Registers::commanded))]
-    fn commanded(self, command: Command) -> Regs
+    fn commanded(self, command: Option<Command>) -> Regs
         ensures { result ≡ commanded self command }
     {
         let mut g = self;
         match command {
-            Command::Illegal => g,
-            Command::Disable(way) => self.disabled(way),
-            Command::Enable(way, entry) => self.enabled(way, entry),
-            Command::LongPackets(on) => {
+            None => g,
+            Some(Command::Disable(way)) => self.disabled(way),
+            Some(Command::Enable(way, entry)) => self.enabled(way, entry),
+            Some(Command::LongPackets(on)) => {
                 g.long = on;
                 g
             }
-            Command::ClearFlags(por, recon) => {
+            Some(Command::ClearFlags(por, recon)) => {
                 g.status = self.status & !choose(recon, RECON, 0) & !choose(por, POR, 0);
                 g.naks_dropped(por)
             }
-            Command::Clear(way) => self.cleared(way),
+            Some(Command::Clear(way)) => self.cleared(way),
         }
     }
 

@@ -4,7 +4,7 @@ ghost use Rattle.bits.specs.Words.{all};
 ghost use Rattle.registers.specs.Naks.{low_first, up_to_limit, nak_counted, naks_dropped, nak_rules};
 
 use crate::regs::{Later, Regs};
-use bits::choice::{choose, either};
+use bits::choice::choose;
 use bits::flags::{EXCNAK, TA};
 
 // How many NAKs are too many (000, diagnostic status).
@@ -63,6 +63,6 @@ impl Regs {
         let excess = self.diagnostic & EXCNAK;
         (naks <= limit)
             & ((naks == 0) | (self.status & TA == 0))
-            & either(naks == limit, excess != 0, excess == 0)
+            & choose(naks == limit, excess != 0, excess == 0)
     }
 }

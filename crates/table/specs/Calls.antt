@@ -1,10 +1,10 @@
 -- Document 01, "Registers" and "Packets", for a row of a network: each call's answer and the bytes after it.
 -- Assumes nothing.
-use Rattle.std.specs.Prelude.{Bool, false, not, ◌&&◌, ◌||◌, List, [], ◌∷◌, ◌++◌, ℕ, ◌+◌, ◌*◌, eqb, leb, ltb, length, replicate}
-use Rattle.table.specs.declared.calls.Reading.{Reading}
-use Rattle.table.specs.declared.calls.Interrupting.{Interrupting}
+use Rattle.std.specs.Prelude.{Bool, false, not, Result, Ok, Err, ◌&&◌, ◌||◌, List, [], ◌∷◌, ◌++◌, ℕ, ◌+◌, ◌*◌, eqb, leb, ltb, length, replicate}
 use Rattle.bits.specs.Words.{pick, among}
-use Rattle.told.specs.Numbers.{SHAPE, ROW, VALUE, NOTREADY, DUPLICATE, ROOM, Refusal, ◌when◌, told}
+use Rattle.told.specs.declared.refusals.Refusal as kinds
+use Rattle.told.specs.Refusals.{number_of}
+use Rattle.told.specs.Numbers.{DONE, SHAPE, ROW, VALUE, NOTREADY, DUPLICATE, ROOM, Refusal, ◌when◌, told}
 use Rattle.registers.specs.Fit.{on_line}
 use Rattle.registers.specs.Registers.{interrupt, after_write}
 use Rattle.registers.specs.Layout.{at_diagnostic, reset_bytes}
@@ -32,7 +32,16 @@ net_read_refusals net k g = place_refusals net k ++ read_refusals (regs_at net k
 unfoldable pub net_read_number : List ℕ → ℕ → ℕ → ℕ
 net_read_number net k g = told (net_read_refusals net k g)
 
+-- what a read tells: its number, and the value
+pub record Reading : Type 0 where
+  pub number : ℕ
+  pub value : ℕ
+
 -- "A refusal returns 0 .. beside its number"
+abbrev pub reading : Result ℕ kinds.Refusal → Reading
+reading (Ok v) = record { number = DONE; value = v }
+reading (Err e) = record { number = number_of e; value = 0 }
+
 unfoldable pub net_reading : List ℕ → ℕ → ℕ → Reading
 net_reading net k g = record { number = net_read_number net k g; value = pick (eqb (net_read_number net k g) 0) (value_read (row_at net k) g) 0 }
 
@@ -94,6 +103,15 @@ timer_number net k = told (timer_refusals net k)
 -- "A row that comes on line bursts .. So does a timer expiry"
 unfoldable pub net_after_timer : List ℕ → ℕ → List ℕ
 net_after_timer net k = pick (eqb (timer_number net k) 0) (turned (set_row net k (on_regs burst (row_at net k))) LOST 0) net
+
+-- what the interrupt call tells: its number, and whether the interrupt is active; false beside a refusal's number
+pub record Interrupting : Type 0 where
+  pub number : ℕ
+  pub active : Bool
+
+abbrev pub interrupting : Result Bool kinds.Refusal → Interrupting
+interrupting (Ok b) = record { number = DONE; active = b }
+interrupting (Err e) = record { number = number_of e; active = false }
 
 unfoldable pub net_interrupt : List ℕ → ℕ → Interrupting
 net_interrupt net k =

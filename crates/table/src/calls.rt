@@ -1,69 +1,44 @@
 // Document 01, "Registers" and "Packets", for a row of a network, and the fresh call. Each call tests SHAPE once.
 ghost use Rattle.std.specs.Prelude.{◌≡◌, true, ◌∷◌, ◌++◌, suc, ◌≤◌, ◌<◌, length, take, drop, replicate};
 ghost use Rattle.places.specs.Places.{onward};
+ghost use Rattle.told.specs.Refusals.{number};
 ghost use Rattle.card.specs.Access.{fresh_row};
 ghost use Rattle.table.specs.Rows.{header_bytes, row_start, joined};
 ghost use Rattle.table.specs.Network.{mark, rows, shape};
-ghost use Rattle.table.specs.Calls.{place_number, net_read_number, net_reading, net_after_read, settled, net_write_number, net_after_write, net_after_reset, timer_number, net_after_timer, net_interrupt, net_data_from, net_data, net_data_number, exact_length, fresh_number, net_after_fresh};
+ghost use Rattle.table.specs.Calls.{place_number, net_read_number, reading, net_reading, net_after_read, settled, net_write_number, net_after_write, net_after_reset, timer_number, net_after_timer, interrupting, net_interrupt, net_data_from, net_data, net_data_number, exact_length, fresh_number, net_after_fresh};
 
 use crate::network::{
     HEADER, LOST, MARK, ROWS, holder, node_of, phase, put_regs, regs_at, row_at, row_end,
     row_start, rows, shape, turn,
 };
 use card::row::ROW_BYTES;
-use told::numbers::{DONE, DUPLICATE, NOTREADY, ROOM, ROW, SHAPE, VALUE, refuse};
-
-// What a read gives: the refusal's number, DONE for none, and the value, 0 beside a refusal.
-#[derive(Clone, Copy)]
-pub struct Reading {
-    pub number: u8,
-    pub value: u8,
-}
-
-// Whether a card's interrupt is active; false beside a refusal's number.
-#[derive(Clone, Copy)]
-pub struct Interrupting {
-    pub number: u8,
-    pub active: bool,
-}
+use told::refusals::Refusal;
 
 // SHAPE and ROW: the refusals of every call to a row.
-pub fn place_number(net: &[u8], row: usize) -> u8
-    ensures { result ≡ place_number net.now row }
+pub fn place(net: &[u8], row: usize) -> Result<(), Refusal>
+    ensures { number result ≡ place_number net.now row }
 {
-    if !shape(net) {
-        return SHAPE;
-    }
-    refuse(DONE, ROW, rows(net) <= row)
+    Refusal::Shape.when(!shape(net))?;
+    Refusal::Row.when(rows(net) <= row)
 }
 
 // And what the card refuses of a read.
-fn read_number(net: &[u8], row: usize, register: usize) -> u8
-    ensures { result ≡ net_read_number net.now row register }
+fn may_read(net: &[u8], row: usize, register: usize) -> Result<(), Refusal>
+    ensures { number result ≡ net_read_number net.now row register }
 {
-    let number = place_number(net, row);
-    if number != DONE {
-        return number;
-    }
-    regs_at(net, row).read_number(register)
+    place(net, row)?;
+    regs_at(net, row).may_read(register)
 }
 
 // A register of a row is read.
-pub fn read(net: &mut [u8], row: usize, register: usize) -> Reading
-    ensures answer { result ≡ net_reading net.old row register }
+pub fn read(net: &mut [u8], row: usize, register: usize) -> Result<u8, Refusal>
+    ensures answer { reading result ≡ net_reading net.old row register }
     ensures bytes { net.new ≡ net_after_read net.old row register }
 {
-    let number = read_number(net, row, register);
-    if number != DONE {
-        return Reading { number, value: 0 };
-    }
+    may_read(net, row, register)?;
     let a = row_start(net, row);
     let e = row_end(net, a);
-    let value = card::row::read(&mut net[a..e], register);
-    Reading {
-        number: DONE,
-        value,
-    }
+    Ok(card::row::read(&mut net[a..e], register))
 }
 
 // Row k, as a call has left it, was on line before the call or was not: the row that comes on line bursts, and the
@@ -87,132 +62,104 @@ fn settle(net: &mut [u8], k: usize, was: bool)
 }
 
 // A register of a row is written, in a network that SHAPE does not refuse. It serves whoever has tested SHAPE already.
-pub fn write_on(net: &mut [u8], row: usize, register: usize, value: u8) -> u8
+pub fn write_on(net: &mut [u8], row: usize, register: usize, value: u8) -> Result<(), Refusal>
     requires net_value { shape net.old ≡ true }
     requires row_bound { row < rows net.old }
-    ensures number { result ≡ net_write_number net.old row register value }
+    ensures number { number result ≡ net_write_number net.old row register value }
     ensures bytes { net.new ≡ net_after_write net.old row register value }
 {
     let g = regs_at(net, row);
+    g.may_write(register, value)?;
     let after = g.after_write(register, value);
     let n = rows(net);
-    let duplicate = after.on_line() & (node_of(net, after.id, row, n) < n);
-    let number = refuse(g.write_number(register, value), DUPLICATE, duplicate);
-    if number != DONE {
-        return number;
-    }
+    let duplicate = after.on_line() & node_of(net, after.id, row, n).is_some();
+    Refusal::Duplicate.when(duplicate)?;
     let a = row_start(net, row);
     let e = row_end(net, a);
     card::row::write(&mut net[a..e], register, value);
     settle(net, row, g.on_line());
-    DONE
+    Ok(())
 }
 
 // A register of a row is written.
-pub fn write(net: &mut [u8], row: usize, register: usize, value: u8) -> u8
-    ensures number { result ≡ net_write_number net.old row register value }
+pub fn write(net: &mut [u8], row: usize, register: usize, value: u8) -> Result<(), Refusal>
+    ensures number { number result ≡ net_write_number net.old row register value }
     ensures bytes { net.new ≡ net_after_write net.old row register value }
 {
-    let number = place_number(net, row);
-    if number != DONE {
-        return number;
-    }
+    place(net, row)?;
     write_on(net, row, register, value)
 }
 
 // A row's hardware reset.
-pub fn reset(net: &mut [u8], row: usize) -> u8
-    ensures number { result ≡ place_number net.old row }
+pub fn reset(net: &mut [u8], row: usize) -> Result<(), Refusal>
+    ensures number { number result ≡ place_number net.old row }
     ensures bytes { net.new ≡ net_after_reset net.old row }
 {
-    let number = place_number(net, row);
-    if number != DONE {
-        return number;
-    }
+    place(net, row)?;
     let was = regs_at(net, row).on_line();
     let a = row_start(net, row);
     let e = row_end(net, a);
     card::row::hardware_reset(&mut net[a..e]);
     settle(net, row, was);
-    DONE
+    Ok(())
 }
 
 // SHAPE, ROW and NOTREADY.
-fn timer_number(net: &[u8], row: usize) -> u8
-    ensures { result ≡ timer_number net.now row }
+fn may_expire(net: &[u8], row: usize) -> Result<(), Refusal>
+    ensures { number result ≡ timer_number net.now row }
 {
-    let number = place_number(net, row);
-    if number != DONE {
-        return number;
-    }
-    refuse(DONE, NOTREADY, !regs_at(net, row).on_line())
+    place(net, row)?;
+    Refusal::NotReady.when(!regs_at(net, row).on_line())
 }
 
 // A row's lost-token timer expires.
-pub fn timer(net: &mut [u8], row: usize) -> u8
-    ensures number { result ≡ timer_number net.old row }
+pub fn timer(net: &mut [u8], row: usize) -> Result<(), Refusal>
+    ensures number { number result ≡ timer_number net.old row }
     ensures bytes { net.new ≡ net_after_timer net.old row }
 {
-    let number = timer_number(net, row);
-    if number != DONE {
-        return number;
-    }
+    may_expire(net, row)?;
     let g = regs_at(net, row).burst();
     put_regs(net, row, g);
     turn(net, LOST, 0);
-    DONE
+    Ok(())
 }
 
-pub fn interrupt(net: &[u8], row: usize) -> Interrupting
-    ensures { result ≡ net_interrupt net.now row }
+// Whether the interrupt of a row is active.
+pub fn interrupt(net: &[u8], row: usize) -> Result<bool, Refusal>
+    ensures { interrupting result ≡ net_interrupt net.now row }
 {
-    let number = place_number(net, row);
-    if number != DONE {
-        return Interrupting {
-            number,
-            active: false,
-        };
-    }
-    Interrupting {
-        number: DONE,
-        active: regs_at(net, row).interrupt(),
-    }
+    place(net, row)?;
+    Ok(regs_at(net, row).interrupt())
 }
 
-// The data of a page of a row: that stretch of the network itself.
+// The data of a page of a row: that stretch of the network itself, of length 0 where the call below refuses.
 pub fn page_data(net: &[u8], row: usize, page: usize) -> &[u8]
     ensures bytes { result.now ≡ net_data net.now row page }
     ensures place { net_data_number net.now row page ≡ 0 → result.ref_ptr ≡ onward net.entry.ref_ptr (net_data_from net.now row page) }
 {
-    if place_number(net, row) != DONE {
+    if place(net, row).is_err() {
         return &net[0..0];
     }
     card::packets::page_data(row_at(net, row), page)
 }
 
-// The number that belongs to the reader's answer.
-pub fn data_number(net: &[u8], row: usize, page: usize) -> u8
-    ensures { result ≡ net_data_number net.now row page }
+// Whether the reader's data may be asked for.
+pub fn may_read_data(net: &[u8], row: usize, page: usize) -> Result<(), Refusal>
+    ensures { number result ≡ net_data_number net.now row page }
 {
-    let number = place_number(net, row);
-    if number != DONE {
-        return number;
-    }
-    card::packets::data_number(row_at(net, row), page)
+    place(net, row)?;
+    card::packets::may_read_data(row_at(net, row), page)
 }
 
 // A network of n rows is made in the bytes lent, whatever they were.
-pub fn fresh(net: &mut [u8], n: usize) -> u8
-    ensures number { result ≡ fresh_number net.old n }
+pub fn fresh(net: &mut [u8], n: usize) -> Result<(), Refusal>
+    ensures number { number result ≡ fresh_number net.old n }
     ensures bytes { net.new ≡ net_after_fresh net.old n }
 {
-    let number = fresh_number(net, n);
-    if number != DONE {
-        return number;
-    }
+    may_make(net, n)?;
     write_header(net, n);
     create_rows(net, n);
-    DONE
+    Ok(())
 }
 
 // The length of a network of as many rows as there may be.
@@ -228,13 +175,11 @@ pub fn exact_length(n: usize) -> usize
 }
 
 // VALUE and ROOM.
-fn fresh_number(net: &[u8], n: usize) -> u8
-    ensures { result ≡ fresh_number net.now n }
+fn may_make(net: &[u8], n: usize) -> Result<(), Refusal>
+    ensures { number result ≡ fresh_number net.now n }
 {
-    if (n == 0) | (ROWS < n) {
-        return VALUE;
-    }
-    refuse(DONE, ROOM, net.len() != exact_length(n))
+    Refusal::Value.when((n == 0) | (ROWS < n))?;
+    Refusal::Room.when(net.len() != exact_length(n))
 }
 
 // The header of a network of n rows in LOST.

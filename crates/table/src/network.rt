@@ -2,6 +2,7 @@
 ghost use Rattle.std.specs.Prelude.{◌≡◌, suc, ◌+◌, ◌≤◌, ◌<◌, length, take, drop};
 ghost use Rattle.places.specs.Places.{onward};
 ghost use Rattle.card.specs.Row.{register_bytes, row_size, Whole, put_regs};
+ghost use Rattle.table.specs.Folds.{below, not_zero};
 ghost use Rattle.table.specs.Rows.{header_bytes, row_start, row_at, set_row, rows_end};
 ghost use Rattle.table.specs.Network.{rows, phase, holder, turned, regs_at, node_of, top_id, header_fits, rows_fit, ids_differ, holder_fits, shape};
 
@@ -119,41 +120,37 @@ pub fn turn(net: &mut [u8], phase: u8, holder: u8)
     net[5] = holder;
 }
 
-// The on-line row with this ID, other than row `except`, among the first n; n where there is none.
-pub fn node_of(net: &[u8], id: u8, except: usize, n: usize) -> usize
+// The on-line row with this ID, other than row `except`, among the first n.
+pub fn node_of(net: &[u8], id: u8, except: usize, n: usize) -> Option<usize>
     requires { row_start net.now n ≤ length net.now }
-    ensures { result ≡ node_of net.now id except n }
+    ensures { result ≡ below n (node_of net.now id except n) }
 {
     let mut a = HEADER;
-    let mut k = 0;
-    while k < n {
+    for k in 0..n {
         let row = row_from(net, a);
         let g = card::row::load(row);
         if g.on_line() & (g.id == id) & (k != except) {
-            return k;
+            return Some(k);
         }
         a += row.len();
-        k += 1;
     }
-    n
+    None
 }
 
-// The highest ID on line; 0 where nobody is.
-pub fn top_id(net: &[u8], n: usize) -> u8
+// The highest ID on line.
+pub fn top_id(net: &[u8], n: usize) -> Option<u8>
     requires { row_start net.now n ≤ length net.now }
-    ensures { result ≡ top_id net.now n }
+    ensures { result ≡ not_zero (top_id net.now n) }
 {
     let mut top = 0;
     let mut a = HEADER;
-    let mut k = 0;
-    while k < n {
+    for k in 0..n {
         let row = row_from(net, a);
         let g = card::row::load(row);
         top = bits::choice::choose(g.on_line() & (top < g.id), g.id, top);
         a += row.len();
-        k += 1;
     }
-    top
+    if top == 0 { None } else { Some(top) }
 }
 
 // The bytes end where the first n rows end. Any bytes behind a header may be asked about, so that each row is looked for before it
@@ -220,7 +217,7 @@ fn ids_differ(net: &[u8], n: usize) -> bool
     while k < n {
         let row = row_from(net, a);
         let g = card::row::load(row);
-        if g.on_line() && node_of(net, g.id, k, k) < k {
+        if g.on_line() && node_of(net, g.id, k, k).is_some() {
             return false;
         }
         a += row.len();

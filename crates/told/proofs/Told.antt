@@ -1,2 +1,3 @@
 -- Refusals: the number that is told of a list.
 pub mod Smallest
+pub mod Results

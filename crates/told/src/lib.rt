@@ -2,3 +2,4 @@
 #![tactic(auto)]
 
 pub mod numbers;
+pub mod refusals;

@@ -10,7 +10,7 @@ use Rattle.table.specs.Network.{Bytes, rows}
 use Rattle.table.proofs.Shaped.Shapes.{shape_rows}
 use Rattle.table.proofs.Shaped.Alike.{bytes_rams}
 use Rattle.desk.specs.declared.laps.Taker.{Taker}
-use Rattle.desk.specs.declared.laps.Lapped.{Lapped}
+use Rattle.desk.specs.Lap.{Lapped}
 use Rattle.desk.specs.Lap.{nodes, after, answers, invitations, takers, lap_steps, lap_number, lapped, net_after_lap, lap_takers, nobody, Walks}
 use Rattle.desk.proofs.Runs.Count.{online_most}
 use Rattle.desk.proofs.Runs.LapCounts.{lap_total}

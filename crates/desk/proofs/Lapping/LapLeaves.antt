@@ -9,7 +9,7 @@ use lib.Seq.{length-take-le}
 use borrow.Author.Tests.{eq-eqb, ne_eqb}
 use Rattle.table.specs.Network.{row_limit}
 use Rattle.desk.specs.declared.laps.Taker.{Taker}
-use Rattle.desk.specs.declared.laps.Lapped.{Lapped}
+use Rattle.desk.specs.Lap.{Lapped}
 use Rattle.desk.specs.Lap.{after, answers, invitations, takers, lap_steps, lap_number, lapped, net_after_lap, lap_takers, list_after_lap, nobody, Walks}
 
 -- ---- what a refused call leaves, and what one that is run leaves

@@ -9,7 +9,7 @@ use lib.Dec.{eqb}
 use lib.ListN.{length, take, drop, set}
 use Rattle.registers.specs.declared.regs.Regs.{Regs}
 use Rattle.bits.specs.Words.{pick}
-use Rattle.line.specs.declared.step.Answer.{Answer}
+use Rattle.line.specs.Answers.{Answer}
 use Rattle.table.specs.Rows.{row_start}
 use Rattle.table.specs.Network.{rows, phase, LOST, regs_at, shape, row_limit}
 use Rattle.line.specs.Step.{step_turn, step, answer_value}

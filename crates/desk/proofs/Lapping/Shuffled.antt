@@ -17,8 +17,8 @@ use Rattle.table.proofs.Shaped.Alike.{Good, good_alike}
 use Rattle.table.proofs.Shuffled.Renaming.{from_within}
 use Rattle.table.proofs.Shuffled.Rows.{shuffled_at, shuffled_from, shuffled_rows, shuffled_phase}
 use Rattle.table.proofs.Shuffled.Shapes.{ends_at, shape_shuffled, id_shuffled}
-use Rattle.line.specs.declared.step.Answer.{Answer}
-use Rattle.line.specs.declared.step.Answer.TheVariants.{Refused, Quiet, Recovered, Passed, Unanswered, TokenLost, Held}
+use Rattle.line.specs.Answers.{Answer}
+use Rattle.line.specs.Answers.{Refused, Quiet, Recovered, Passed, Unanswered, TokenLost, Held}
 use Rattle.line.specs.Step.{step, renamed}
 use Rattle.line.proofs.Steps.StepBy.{sound_step}
 use Rattle.line.proofs.Shuffled.Steps.{step_shuffled}

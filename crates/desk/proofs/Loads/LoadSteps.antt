@@ -15,7 +15,7 @@ use Rattle.table.proofs.Access.Fresh.{fresh_refused, fresh_room, fresh_net_lem, 
 use Rattle.table.proofs.Access.ShapeCalls.{shape_write, shape_fresh}
 use Rattle.table.proofs.Access.Beside.{beside_count, write_beside}
 use Rattle.told.specs.Numbers.{DONE}
-use Rattle.orders.specs.declared.check.Checked.{Checked}
+use Rattle.orders.specs.Check.{Checked}
 use Rattle.orders.specs.Form.{records, record_at, id_at, flags_of, RECEIVE, LONG, order_fits}
 use Rattle.orders.specs.Check.{tells, checked}
 use Rattle.orders.proofs.Checks.Fit.{fits_told, told_fits, order_records}

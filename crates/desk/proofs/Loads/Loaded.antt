@@ -24,7 +24,7 @@ use Rattle.table.proofs.Folds.{clash}
 use Rattle.table.proofs.Online.Nodes.{online_is, node_online, node_id, online_same}
 use Rattle.table.proofs.Access.Fresh.{fresh_room, fresh_net_lem, header_fresh, row_at_fresh}
 use Rattle.table.proofs.Access.ShapeCalls.{shape_fresh}
-use Rattle.orders.specs.declared.check.Checked.{Checked}
+use Rattle.orders.specs.Check.{Checked}
 use Rattle.orders.specs.Form.{record_bytes, records, record_at, id_at, flags_of, order_fits}
 use Rattle.orders.specs.Check.{tells, checked}
 use Rattle.orders.proofs.Forms.Records.{records_within}

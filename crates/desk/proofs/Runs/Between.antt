@@ -10,7 +10,7 @@ use Rattle.table.specs.Network.{shape, SameNodes}
 use Rattle.table.proofs.Shaped.Alike.{Rams}
 use Rattle.table.proofs.Access.Refused.{timer_refused}
 use Rattle.table.proofs.Access.Calm.{Calm, calm_same, calm_read, calm_write, calm_reset}
-use Rattle.line.specs.declared.step.Answer.{Answer}
+use Rattle.line.specs.Answers.{Answer}
 use Rattle.line.specs.Step.{step, answer_number}
 use Rattle.line.proofs.Steps.Refused.{step_refused}
 use Rattle.desk.specs.Lap.{lapped}

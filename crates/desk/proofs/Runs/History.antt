@@ -8,7 +8,7 @@ use native.Mathlib.Nat.{suc_inj}
 use native.Mathlib.Omega.{arith}
 use lib.ListN.{length}
 use Rattle.table.specs.Network.{rows, on_line_at, shape, SameNodes}
-use Rattle.line.specs.declared.step.Answer.{Answer}
+use Rattle.line.specs.Answers.{Answer}
 use Rattle.line.specs.Step.{step, answer_value}
 use Rattle.line.proofs.Steps.StepIs.{step_done}
 use Rattle.desk.specs.Lap.{passed}

@@ -6,8 +6,8 @@ use mathlib.Core.List.{List, [], ◌∷◌, ◌++◌, map}
 use Prim.Native.Nat.{ℕ, zero, suc}
 use Rattle.bits.specs.Words.{pick}
 use Rattle.bits.proofs.Words.Bools.{pick_of}
-use Rattle.line.specs.declared.step.Answer.{Answer}
-use Rattle.line.specs.declared.step.Answer.TheVariants.{Refused, Quiet, Recovered, Passed, Unanswered, TokenLost, Held}
+use Rattle.line.specs.Answers.{Answer}
+use Rattle.line.specs.Answers.{Refused, Quiet, Recovered, Passed, Unanswered, TokenLost, Held}
 use Rattle.table.specs.Network.{regs_at}
 use Rattle.line.specs.Step.{step, answer_value}
 use Rattle.desk.specs.declared.laps.Taker.{Taker}

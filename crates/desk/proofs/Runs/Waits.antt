@@ -8,7 +8,7 @@ use native.Mathlib.Nat.{suc_inj}
 use native.Mathlib.Omega.{arith}
 use lib.ListN.{length}
 use Rattle.table.specs.Network.{rows, phase, LOST, regs_at, on_line_at, top_id, shape, SameNodes}
-use Rattle.line.specs.declared.step.Answer.TheVariants.{Recovered}
+use Rattle.line.specs.Answers.{Recovered}
 use Rattle.line.specs.Step.{step, highest}
 use Rattle.table.proofs.Shaped.Shapes.{shape_ids}
 use Rattle.table.proofs.Online.Nodes.{node_id, node_of_found}

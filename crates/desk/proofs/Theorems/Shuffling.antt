@@ -13,7 +13,7 @@ use Rattle.table.proofs.Access.Others.{only_rows, read_only, write_only, reset_o
 use Rattle.table.proofs.Shuffled.Rows.{shuffled_at}
 use Rattle.table.proofs.Shuffled.Shapes.{ends_at}
 use Rattle.table.proofs.Shuffled.Calls.{place_number_shuffled, reading_shuffled, read_shuffled, write_number_shuffled, write_shuffled, reset_shuffled, timer_number_shuffled, timer_shuffled, interrupt_shuffled, data_shuffled, data_number_shuffled}
-use Rattle.line.specs.declared.step.Answer.{Answer}
+use Rattle.line.specs.Answers.{Answer}
 use Rattle.line.specs.Traffic.{Turn}
 use Rattle.line.proofs.Shuffled.Steps.{step_shuffled}
 use Rattle.desk.specs.Host.{Call, At, Read, Write, Reset, Timer, Interrupt, Data, DataNumber, Step, Lap, Number, Register, Line, Stepped, replied, called, replies, table}

@@ -23,8 +23,8 @@ use Rattle.table.proofs.Shaped.Shapes.{shape_phase}
 use Rattle.table.proofs.Shaped.Alike.{Rams}
 use Rattle.line.specs.declared.traffic.Outcome.{Outcome}
 use Rattle.line.specs.declared.traffic.Outcome.TheVariants.{Nothing, Malformed, Broadcast, NoAnswer, Nak, Delivered, Unacknowledged}
-use Rattle.line.specs.declared.step.Answer.{Answer}
-use Rattle.line.specs.declared.step.Answer.TheVariants.{Refused, Quiet, Recovered, Passed, Unanswered, TokenLost, Held}
+use Rattle.line.specs.Answers.{Answer}
+use Rattle.line.specs.Answers.{Refused, Quiet, Recovered, Passed, Unanswered, TokenLost, Held}
 use Rattle.line.specs.Step.{step}
 use Rattle.line.specs.Outcomes.{stores, storing_bytes, outcome_naks, step_naks}
 use Rattle.line.proofs.Promised.TheHolder.{holder_left}

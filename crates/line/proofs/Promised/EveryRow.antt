@@ -9,8 +9,8 @@ use native.Mathlib.Omega.{arith}
 use lib.Dec.{eqb, ltb}
 use borrow.Author.Tests.{eqb-true, eqb-false, eq-eqb, ne_eqb}
 use Rattle.line.specs.declared.traffic.Outcome.{Outcome}
-use Rattle.line.specs.declared.step.Answer.{Answer}
-use Rattle.line.specs.declared.step.Answer.TheVariants.{Refused, Quiet, Recovered, Passed, Unanswered, TokenLost, Held}
+use Rattle.line.specs.Answers.{Answer}
+use Rattle.line.specs.Answers.{Refused, Quiet, Recovered, Passed, Unanswered, TokenLost, Held}
 use Rattle.registers.specs.Events.{cancelled, transmitting}
 use Rattle.card.specs.Packets.{malformed}
 use Rattle.card.specs.Moves.{OnlyAt}

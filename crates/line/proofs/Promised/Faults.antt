@@ -9,8 +9,8 @@ use native.Mathlib.Omega.{arith}
 use lib.Dec.{eqb, ltb}
 use borrow.Author.Tests.{eqb-true, eqb-false, le-ltb}
 use Rattle.line.specs.declared.traffic.Outcome.{Outcome}
-use Rattle.line.specs.declared.step.Answer.{Answer}
-use Rattle.line.specs.declared.step.Answer.TheVariants.{Held}
+use Rattle.line.specs.Answers.{Answer}
+use Rattle.line.specs.Answers.{Held}
 use Rattle.card.specs.Packets.{malformed, page_shape, destination}
 use Rattle.registers.specs.Events.{cancelled, transmitting, receiving, transmit_page}
 use Rattle.card.specs.Packets.{storable}

@@ -14,7 +14,7 @@ use Rattle.card.specs.declared.packets.Packet.{Packet}
 use Rattle.line.specs.declared.passes.Event.{Event}
 use Rattle.line.specs.declared.passes.Event.TheVariants.{Recovery, Message, Taken}
 use Rattle.line.specs.declared.traffic.Outcome.{Outcome}
-use Rattle.line.specs.declared.step.Answer.TheVariants.{Held}
+use Rattle.line.specs.Answers.{Held}
 use Rattle.bits.specs.Words.{pick, has, among}
 use Rattle.bits.specs.Flags.{CCHEN}
 use Rattle.registers.specs.Sides.{chaining}

@@ -7,7 +7,7 @@ use Prim.Native.Nat.{ℕ}
 use borrow.Author.Tests.{eq-eqb, ne_eqb}
 use Rattle.line.specs.declared.traffic.Outcome.{Outcome}
 use Rattle.line.specs.declared.traffic.Outcome.TheVariants.{Nothing, Malformed, Broadcast, NoAnswer, Nak, Delivered, Unacknowledged}
-use Rattle.line.specs.declared.step.Answer.TheVariants.{Held}
+use Rattle.line.specs.Answers.{Held}
 use Rattle.table.specs.Network.{rows, holder, node_of, shape}
 use Rattle.table.proofs.Online.Nodes.{node_of_found}
 use Rattle.table.proofs.Shaped.Alike.{Rams}

@@ -19,7 +19,7 @@ use Rattle.table.proofs.Shuffled.Renaming.{to_below}
 use Rattle.table.proofs.Shuffled.Rows.{shuffled_at, shuffled_phase, shuffled_holder, shuffled_turned}
 use Rattle.table.proofs.Shuffled.Shapes.{ends_at, shape_shuffled, node_shuffled, top_shuffled}
 use Rattle.line.specs.declared.passes.Event.TheVariants.{Recovery, Message, Taken}
-use Rattle.line.specs.declared.step.Answer.{Answer}
+use Rattle.line.specs.Answers.{Answer}
 use Rattle.line.specs.Traffic.{Turn, happened, taken_turn}
 use Rattle.line.specs.Step.{destroyed, highest, lost_turn, invited, taker, pass_turn, held, step_turn, step_refusals, step_number, step, renamed}
 use Rattle.line.proofs.Change.Changes.{Rises, Change, Reaches, Does}

@@ -7,8 +7,8 @@ use Prim.Native.Nat.{ℕ, ◌≤◌, ◌<◌}
 use lib.Dec.{eqb, ltb}
 use borrow.Author.Tests.{eq-eqb, ne_eqb, ltb-true, lt-ltb, le-ltb}
 use Rattle.line.specs.declared.passes.Event.TheVariants.{Recovery, Message, Taken}
-use Rattle.line.specs.declared.step.Answer.{Answer}
-use Rattle.line.specs.declared.step.Answer.TheVariants.{Recovered, Passed, Unanswered}
+use Rattle.line.specs.Answers.{Answer}
+use Rattle.line.specs.Answers.{Recovered, Passed, Unanswered}
 use Rattle.told.specs.Numbers.{DONE, SHAPE, VALUE}
 use Rattle.told.proofs.Told.Smallest.{refuse_passed}
 use Rattle.registers.specs.Events.{risen_nid}

@@ -8,7 +8,7 @@ use Prim.Native.Nat.{ℕ, ◌<◌}
 use native.Mathlib.Omega.{arith}
 use borrow.Author.Tests.{eq-eqb, eqb-true, eqb-false, not-false}
 use lib.Dec.{eqb, ltb}
-use Rattle.line.specs.declared.step.Answer.{Answer}
+use Rattle.line.specs.Answers.{Answer}
 use Rattle.told.specs.Numbers.{SHAPE}
 use Rattle.bits.proofs.Words.Bools.{cases, pick_of}
 use Rattle.told.proofs.Told.Smallest.{none_refuses}

@@ -10,8 +10,8 @@ use lib.ListN.{length}
 use Rattle.registers.specs.declared.regs.Regs.{Regs}
 use Rattle.line.specs.declared.passes.Event.TheVariants.{Recovery, Message, Taken}
 use Rattle.line.specs.declared.traffic.Outcome.{Outcome}
-use Rattle.line.specs.declared.step.Answer.{Answer}
-use Rattle.line.specs.declared.step.Answer.TheVariants.{Recovered, Passed, Unanswered, Held}
+use Rattle.line.specs.Answers.{Answer}
+use Rattle.line.specs.Answers.{Recovered, Passed, Unanswered, Held}
 use Rattle.registers.specs.Fit.{on_line}
 use Rattle.registers.proofs.Values.SameCard.{is_recovered, is_risen}
 use Rattle.table.specs.Rows.{header_bytes}

@@ -16,7 +16,7 @@ use Rattle.bits.specs.Words.{among}
 use Rattle.table.specs.Folds.{every}
 use Rattle.table.specs.Network.{row_limit}
 use Rattle.table.proofs.Folds.{clash, every_at, every_of, some_fails, seek_not}
-use Rattle.orders.specs.declared.check.Checked.{Checked}
+use Rattle.orders.specs.Check.{Checked}
 use Rattle.orders.specs.Form.{record_bytes, records, record_at, length_fits, marked, id_fits, flags_fit, name_fits, record_fits, id_at, repeats, order_fits}
 use Rattle.orders.specs.Check.{record_refusals, record_numbers, record_number, refused, tells, checked}
 use Rattle.orders.proofs.Checks.Told.{Good, First, tells_good, checked_of}

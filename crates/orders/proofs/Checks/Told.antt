@@ -11,7 +11,7 @@ use Rattle.told.specs.Numbers.{DONE, LENGTH}
 use Rattle.bits.proofs.Words.Bools.{pick_of}
 use Rattle.table.specs.Folds.{seek}
 use Rattle.table.proofs.Folds.{seek_more}
-use Rattle.orders.specs.declared.check.Checked.{Checked}
+use Rattle.orders.specs.Check.{Checked}
 use Rattle.orders.specs.Form.{records, length_fits}
 use Rattle.orders.specs.Check.{record_number, refused, first_bad, tells, checked}
 use Rattle.orders.proofs.Checks.Found.{first_here, first_none, first_refused, first_below}

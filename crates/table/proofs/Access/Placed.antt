@@ -19,8 +19,8 @@ use Rattle.places.proofs.Places.{onward_onward}
 use Rattle.card.specs.Packets.{data_refusals, data_number, data_from, page_data}
 use Rattle.registers.specs.Events.{burst}
 use Rattle.told.proofs.Told.Smallest.{refuse_held, refuse_passed, refuse_stays, told_first, told_second, told_both, none_refuses}
-use Rattle.table.specs.declared.calls.Reading.{Reading}
-use Rattle.table.specs.declared.calls.Interrupting.{Interrupting}
+use Rattle.table.specs.Calls.{Reading}
+use Rattle.table.specs.Calls.{Interrupting}
 use Rattle.table.specs.Rows.{header_bytes, row_start, row_at, set_row}
 use Rattle.table.specs.Network.{rows, LOST, turned, regs_at, shape}
 use Rattle.table.specs.Calls.{place_refusals, place_number, net_read_number, net_reading, net_after_read, net_write_number, timer_number, net_after_timer, net_interrupt, net_data_from, net_data, net_data_number}

@@ -2,7 +2,7 @@ use Rattle.std.proofs.Common.{sym, ap, not, ◌∙◌}
 use Rattle.table.proofs.Shaped.Shapes.{shape_least}
 use Rattle.table.proofs.Shaped.Bounds.{bounds}
 use Rattle.desk.proofs.Lapping.LapNumber.{no_shape, asked}
-use Rattle.desk.proofs.laps.lap_number.Goals as goal
+use Rattle.desk.proofs.laps.may_lap.Goals as goal
 
 pub returns-then-not-shape : goal.returns-then-not-shape
 returns-then-not-shape c = no_shape _ _ _ c.shape.ensures (ap not c.if-not-shape.true)

@@ -1,6 +1,6 @@
 use Rattle.table.specs.Calls.{net_read_number}
 use Rattle.table.proofs.Access.Placed.{at_part, placed_refused, placed_asked}
-use Rattle.table.proofs.calls.read_number.Goals as goal
+use Rattle.table.proofs.calls.may_read.Goals as goal
 
 pub returns-then-number-ne-DONE : goal.returns-then-number-ne-DONE
 unfolding net_read_number

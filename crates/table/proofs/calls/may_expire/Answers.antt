@@ -3,7 +3,7 @@ use Rattle.told.specs.Numbers.{DONE, NOTREADY, refuse}
 use Rattle.table.specs.Calls.{timer_number}
 use Rattle.table.proofs.Online.Nodes.{online_is}
 use Rattle.table.proofs.Access.Placed.{at_part, placed_refused, placed_asked}
-use Rattle.table.proofs.calls.timer_number.Goals as goal
+use Rattle.table.proofs.calls.may_expire.Goals as goal
 
 pub returns-then-number-ne-DONE : goal.returns-then-number-ne-DONE
 unfolding timer_number

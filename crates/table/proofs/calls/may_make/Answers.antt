@@ -1,5 +1,5 @@
 use Rattle.table.proofs.Access.Fresh.{fresh_value, fresh_asked}
-use Rattle.table.proofs.calls.fresh_number.Goals as goal
+use Rattle.table.proofs.calls.may_make.Goals as goal
 
 pub returns-then-n : goal.returns-then-n
 returns-then-n c = fresh_value _ _ c.if-n.true

@@ -1,0 +1,49 @@
+-- What a call answers, and the number that it tells.
+-- Assumes nothing.
+use mathlib.Core.Path.{◌≡◌, refl, sym, ◌∙◌, ap}
+use mathlib.Core.Bool.{Bool, true, false, false≢true}
+use Prim.Native.Nat.{ℕ, ◌<◌}
+use native.Mathlib.Omega.{arith}
+use lib.Dec.{eqb}
+use Rattle.std.proofs.Common.{Result, Ok, Err}
+use Rattle.std.specs.Result.{IsErrAnd}
+use Rattle.bits.specs.Words.{pick}
+use Rattle.told.specs.declared.refusals.Refusal.{Refusal}
+use Rattle.told.specs.declared.refusals.Refusal.TheVariants.{Shape, Row, Register, Value, NotReady, Direction, Busy, Online, Page, Duplicate, Alone, Room, Length, Mark, OrderId, Flags, Name, Twice}
+use Rattle.told.specs.Numbers.{DONE, refuse}
+use borrow.Author.Tests.{eqb-false}
+use Rattle.told.proofs.Told.Smallest.{refuse_stays}
+use Rattle.told.specs.Refusals.{number_of, number}
+
+-- a refusal has a number of its own, and DONE is none's
+pub not_done : (e : Refusal) → eqb (number_of e) DONE ≡ false
+not_done Shape = refl
+not_done Row = refl
+not_done Register = refl
+not_done Value = refl
+not_done NotReady = refl
+not_done Direction = refl
+not_done Busy = refl
+not_done Online = refl
+not_done Page = refl
+not_done Duplicate = refl
+not_done Alone = refl
+not_done Room = refl
+not_done Length = refl
+not_done Mark = refl
+not_done OrderId = refl
+not_done Flags = refl
+not_done Name = refl
+not_done Twice = refl
+
+-- what `?` hands on
+pub handed_on : {A : Type 0} (r : Result A Refusal) (e : Refusal) → IsErrAnd r (λ y. y ≡ e) → r ≡ Err e
+handed_on (Ok v) e h = absurd h
+handed_on (Err y) e h = ap (λ x. Err x) h
+
+-- the number that is told before a test stands
+pub stands : (e : Refusal) (n k : ℕ) (t : Bool) → number_of e ≡ n → number_of e ≡ refuse n k t
+stands e n k t h = h ∙ sym (refuse_stays n k t (λ z. eqb-false (number_of e) DONE (not_done e) (h ∙ z)))
+
+pub handed_number : {A : Type 0} (r : Result A Refusal) (e : Refusal) (n : ℕ) → IsErrAnd r (λ y. y ≡ e) → number_of e ≡ n → number r ≡ n
+handed_number r e n h p = rw (handed_on r e h) p
