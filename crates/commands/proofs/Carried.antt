@@ -7,8 +7,9 @@ use native.Mathlib.Omega.{arith}
 use lib.Bits.{bit_and}
 use lib.Dec.{eqb}
 use Rattle.bits.specs.declared.way.Way.TheVariants.{Transmit, Receive}
+use Rattle.std.proofs.Common.{Option, Some, None}
 use Rattle.commands.specs.declared.commands.Command.{Command}
-use Rattle.commands.specs.declared.commands.Command.TheVariants.{Illegal, Disable, Enable, LongPackets, ClearFlags, Clear}
+use Rattle.commands.specs.declared.commands.Command.TheVariants.{Disable, Enable, LongPackets, ClearFlags, Clear}
 use Rattle.bits.specs.Words.{has, raise_if}
 use Rattle.bits.specs.Flags.{BROADCASTS, only, transmit_bits, receive_bits}
 use Rattle.bits.specs.Flags.{oldest_bits}
@@ -23,13 +24,13 @@ wanted p w true = raise_other (255 - receive_bits) BROADCASTS p refl ∙ w
 wanted p w false = w
 
 -- what a decoded command carries has no unnamed bit
-abbrev pub Small : Command → Type 0
-Small Illegal = Unit
-Small (Disable w) = Unit
-Small (Enable w entry) = only (oldest_bits w) entry ≡ true
-Small (LongPackets l) = l < 2
-Small (ClearFlags p r) = Unit
-Small (Clear w) = Unit
+abbrev pub Small : Option Command → Type 0
+Small None = Unit
+Small (Some (Disable w)) = Unit
+Small (Some (Enable w entry)) = only (oldest_bits w) entry ≡ true
+Small (Some (LongPackets l)) = l < 2
+Small (Some (ClearFlags p r)) = Unit
+Small (Some (Clear w)) = Unit
 
 pub small : (c : ℕ) → Small (command_of c)
 unfolding command_of
@@ -45,22 +46,22 @@ small c =
     (λ _. pick_of Small (eqb (bit_and c 0xe7) 0x06) (λ _. tt) (λ _. tt))))))))
 
 -- ---- document 01's sums, and the commands that loading and a Clear Flags write
-pub page_2c : command_of 0x2c ≡ Enable Receive 3
+pub page_2c : command_of 0x2c ≡ Some (Enable Receive 3)
 unfolding command_of
 page_2c = refl
 
-pub page_0b : command_of 0x0b ≡ Enable Transmit 2
+pub page_0b : command_of 0x0b ≡ Some (Enable Transmit 2)
 unfolding command_of
 page_0b = refl
 
-pub command_0d : command_of 0x0d ≡ LongPackets 1
+pub command_0d : command_of 0x0d ≡ Some (LongPackets 1)
 unfolding command_of
 command_0d = refl
 
-pub command_84 : command_of 0x84 ≡ Enable Receive BROADCASTS
+pub command_84 : command_of 0x84 ≡ Some (Enable Receive BROADCASTS)
 unfolding command_of
 command_84 = refl
 
-pub command_0e : command_of 0x0e ≡ ClearFlags true false
+pub command_0e : command_of 0x0e ≡ Some (ClearFlags true false)
 unfolding command_of
 command_0e = refl

@@ -9,8 +9,9 @@ use borrow.Author.Tests.{eqb-true, leb-true, ltb-false, le-ltb}
 use lib.Dec.{eqb, ltb}
 use Rattle.bits.specs.declared.way.Way.TheVariants.{Transmit, Receive}
 use Rattle.registers.specs.declared.regs.Regs.{Regs}
+use Rattle.std.proofs.Common.{Option, Some, None}
 use Rattle.commands.specs.declared.commands.Command.{Command}
-use Rattle.commands.specs.declared.commands.Command.TheVariants.{Illegal, Disable, Enable, LongPackets, ClearFlags, Clear}
+use Rattle.commands.specs.declared.commands.Command.TheVariants.{Disable, Enable, LongPackets, ClearFlags, Clear}
 use Rattle.bits.specs.Words.{pick, clear, has}
 use Rattle.bits.specs.Flags.{TA, EXCNAK, AUTO_INC, CANCEL, RESET}
 use Rattle.commands.specs.Commands.{command_of}
@@ -45,17 +46,17 @@ module _ (g : Regs) where
   naks_unanswered = refl
 
   -- ---- a write, and a hardware reset
-  naks_commanded : (c : Command) → naks (commanded g c) ≡ pick (drops_command c) 0 (naks g)
+  naks_commanded : (c : Option Command) → naks (commanded g c) ≡ pick (drops_command c) 0 (naks g)
   unfolding commanded
-  naks_commanded Illegal = refl
-  naks_commanded (Disable Transmit) = refl
-  naks_commanded (Disable Receive) = refl
-  naks_commanded (Enable Transmit p) = refl
-  naks_commanded (Enable Receive p) = refl
-  naks_commanded (LongPackets l) = refl
-  naks_commanded (ClearFlags p r) = naks_dropped_lem p
-  naks_commanded (Clear Transmit) = refl
-  naks_commanded (Clear Receive) = refl
+  naks_commanded None = refl
+  naks_commanded (Some (Disable Transmit)) = refl
+  naks_commanded (Some (Disable Receive)) = refl
+  naks_commanded (Some (Enable Transmit p)) = refl
+  naks_commanded (Some (Enable Receive p)) = refl
+  naks_commanded (Some (LongPackets l)) = refl
+  naks_commanded (Some (ClearFlags p r)) = naks_dropped_lem p
+  naks_commanded (Some (Clear Transmit)) = refl
+  naks_commanded (Some (Clear Receive)) = refl
 
   naks_configured : (v : ℕ) → naks (configured g v) ≡ pick (has RESET v) 0 (naks g)
   unfolding configured

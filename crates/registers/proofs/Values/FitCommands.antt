@@ -6,8 +6,9 @@ use Prim.Native.Nat.{ℕ, ◌-◌}
 use lib.Bits.{bit_and}
 use lib.Dec.{eqb}
 use Rattle.registers.specs.declared.regs.Regs.{Regs}
+use Rattle.std.proofs.Common.{Option, Some, None}
 use Rattle.commands.specs.declared.commands.Command.{Command}
-use Rattle.commands.specs.declared.commands.Command.TheVariants.{Illegal, Disable, Enable, LongPackets, ClearFlags, Clear}
+use Rattle.commands.specs.declared.commands.Command.TheVariants.{Disable, Enable, LongPackets, ClearFlags, Clear}
 use Rattle.bits.specs.Words.{pick, clear, lower}
 use Rattle.bits.specs.Flags.{RI, POR, RECON, TMA, TA, only, status_bits}
 use Rattle.registers.specs.Fields.{with_status}
@@ -39,19 +40,19 @@ even_page false true h = cc
 even_page false false h = refl
 
 module _ (g : Regs) (f : Fit g) where
-  pub fit_commanded : (c : Command) → Small c → busy g c ≡ false → odd_page g c ≡ false → Fit (commanded g c)
+  pub fit_commanded : (c : Option Command) → Small c → busy g c ≡ false → odd_page g c ≡ false → Fit (commanded g c)
   unfolding commanded
-  fit_commanded Illegal s b o = f
-  fit_commanded (Disable w) s b o =
+  fit_commanded None s b o = f
+  fit_commanded (Some (Disable w)) s b o =
       keeps.fit_side g f w _ (fits_disabled w (side_of w g) (fit_of g f w)) (λ m p. disabled_apart w m p (side_of w g)) (λ _ t. disabled_waits (side_of w g) t w)
-  fit_commanded (Enable w entry) s b o =
+  fit_commanded (Some (Enable w entry)) s b o =
       keeps.fit_side g f w _ (fits_enabled w (side_of w g) (fit_of g f w) entry b s (even_page (clear 1 entry) (eqb g.long 1) o)) (λ m q. enabled_apart w m q (side_of w g) (chaining g) entry)
       (λ _ t. enabled_waits (side_of w g) t w (chaining g) entry)
-  fit_commanded (LongPackets l) s b o =
+  fit_commanded (Some (LongPackets l)) s b o =
       let e : only 1 l ≡ true = by_table false (only 1) (λ l. true) 2 refl l s in
       keeps.fit_long g f l e (or_left (clear TA g.status) (clear RI g.status) b) (or_right (clear TA g.status) (clear RI g.status) b)
-  fit_commanded (ClearFlags p r) s b o =
+  fit_commanded (Some (ClearFlags p r)) s b o =
       let h = naks_dropped p g in
       flag (with_status (lower (pick r RECON 0) h.status) h) (flag h (fit_dropped g f p) r RECON refl refl refl refl) p POR refl refl refl refl
-  fit_commanded (Clear w) s b o =
+  fit_commanded (Some (Clear w)) s b o =
       keeps.fit_side g f w _ (fits_cleared w (side_of w g) (fit_of g f w)) (λ m p. cleared_apart w m p (side_of w g)) (λ _ t. cleared_waits (side_of w g) t w)

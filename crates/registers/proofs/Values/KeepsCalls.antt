@@ -8,8 +8,9 @@ use borrow.Author.Tests.{eqb-true}
 use lib.Dec.{eqb}
 use Rattle.bits.specs.declared.way.Way.TheVariants.{Transmit, Receive}
 use Rattle.registers.specs.declared.regs.Regs.{Regs}
+use Rattle.std.proofs.Common.{Option, Some, None}
 use Rattle.commands.specs.declared.commands.Command.{Command}
-use Rattle.commands.specs.declared.commands.Command.TheVariants.{Illegal, Disable, Enable, LongPackets, ClearFlags, Clear}
+use Rattle.commands.specs.declared.commands.Command.TheVariants.{Disable, Enable, LongPackets, ClearFlags, Clear}
 use Rattle.bits.specs.Words.{pick, among, clear, has}
 use Rattle.bits.specs.Flags.{RESET, AUTO_INC}
 use Rattle.registers.specs.Fields.{with_diagnostic, with_naks}
@@ -50,17 +51,17 @@ module _ (g : Regs) where
       let auto = has AUTO_INC g.mode in
       keeps_ahead (read_changes g k) (after_read g k) (read_bytes k) (read_fetches g k) (λ t. rw (eqb-true k 4 (and_left four auto t), and_right four auto t))
 
-  keeps_commanded : (c : Command) → By (at_status ∷ at_long ∷ nak_bytes ++ queue_bytes true) (commanded g c)
+  keeps_commanded : (c : Option Command) → By (at_status ∷ at_long ∷ nak_bytes ++ queue_bytes true) (commanded g c)
   unfolding commanded
-  keeps_commanded Illegal = keeps_same _ g
-  keeps_commanded (Disable Transmit) = keeps_side _ g Transmit refl _
-  keeps_commanded (Disable Receive) = keeps_side _ g Receive refl _
-  keeps_commanded (Enable Transmit p) = keeps_side _ g Transmit refl _
-  keeps_commanded (Enable Receive p) = keeps_side _ g Receive refl _
-  keeps_commanded (LongPackets x) = keeps_puts _ g _ ((at_long, x) ∷ []) refl refl refl
-  keeps_commanded (ClearFlags p r) = let h = naks_dropped p g in keeps_then g h _ (keeps_naks _ refl g _ _ _) (keeps_puts _ h _ ((at_status, _) ∷ []) refl refl refl)
-  keeps_commanded (Clear Transmit) = keeps_side _ g Transmit refl _
-  keeps_commanded (Clear Receive) = keeps_side _ g Receive refl _
+  keeps_commanded None = keeps_same _ g
+  keeps_commanded (Some (Disable Transmit)) = keeps_side _ g Transmit refl _
+  keeps_commanded (Some (Disable Receive)) = keeps_side _ g Receive refl _
+  keeps_commanded (Some (Enable Transmit p)) = keeps_side _ g Transmit refl _
+  keeps_commanded (Some (Enable Receive p)) = keeps_side _ g Receive refl _
+  keeps_commanded (Some (LongPackets x)) = keeps_puts _ g _ ((at_long, x) ∷ []) refl refl refl
+  keeps_commanded (Some (ClearFlags p r)) = let h = naks_dropped p g in keeps_then g h _ (keeps_naks _ refl g _ _ _) (keeps_puts _ h _ ((at_status, _) ∷ []) refl refl refl)
+  keeps_commanded (Some (Clear Transmit)) = keeps_side _ g Transmit refl _
+  keeps_commanded (Some (Clear Receive)) = keeps_side _ g Receive refl _
 
   abbrev reset : List ℕ
   reset = at_configuration ∷ at_status ∷ at_mask ∷ at_long ∷ nak_bytes ++ queue_bytes true

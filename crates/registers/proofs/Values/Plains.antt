@@ -8,8 +8,9 @@ use lib.Bits.{bit_and}
 use lib.Dec.{eqb, lit<}
 use Rattle.bits.specs.declared.way.Way.TheVariants.{Transmit, Receive}
 use Rattle.registers.specs.declared.regs.Regs.{Regs}
+use Rattle.std.proofs.Common.{Option, Some, None}
 use Rattle.commands.specs.declared.commands.Command.{Command}
-use Rattle.commands.specs.declared.commands.Command.TheVariants.{Illegal, Disable, Enable, LongPackets, ClearFlags, Clear}
+use Rattle.commands.specs.declared.commands.Command.TheVariants.{Disable, Enable, LongPackets, ClearFlags, Clear}
 use Rattle.bits.specs.Words.{all, among, clear, has}
 use Rattle.bits.specs.Flags.{TMA, TA, CCHEN, only, mask_bits, mode_bits}
 use Rattle.queues.specs.Queues as queues
@@ -29,14 +30,14 @@ use Rattle.commands.proofs.Legal.{plain_legal}
 
 module _ (g : Regs) (c : chaining g ≡ false) where
   -- ---- the refusals of a write
-  busy_plain : (k : Command) → busy g k ≡ plain_busy g k
-  busy_plain Illegal = refl
-  busy_plain (Disable w) = refl
-  busy_plain (Enable Transmit p) = rw c
-  busy_plain (Enable Receive p) = rw c
-  busy_plain (LongPackets l) = refl
-  busy_plain (ClearFlags p r) = refl
-  busy_plain (Clear w) = refl
+  busy_plain : (k : Option Command) → busy g k ≡ plain_busy g k
+  busy_plain None = refl
+  busy_plain (Some (Disable w)) = refl
+  busy_plain (Some (Enable Transmit p)) = rw c
+  busy_plain (Some (Enable Receive p)) = rw c
+  busy_plain (Some (LongPackets l)) = refl
+  busy_plain (Some (ClearFlags p r)) = refl
+  busy_plain (Some (Clear w)) = refl
 
   plain_configuration : clear CCHEN g.configuration ≡ true
   plain_configuration = not-false (clear CCHEN g.configuration) c

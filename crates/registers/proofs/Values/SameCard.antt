@@ -7,8 +7,9 @@ use borrow.Author.Tests.{eqb-true}
 use lib.Dec.{eqb, lit<}
 use Rattle.registers.specs.declared.regs.Regs.{Regs}
 use Rattle.bits.specs.declared.way.Way.TheVariants.{Transmit, Receive}
+use Rattle.std.proofs.Common.{Option, Some, None}
 use Rattle.commands.specs.declared.commands.Command.{Command}
-use Rattle.commands.specs.declared.commands.Command.TheVariants.{Illegal, Disable, Enable, LongPackets, ClearFlags, Clear}
+use Rattle.commands.specs.declared.commands.Command.TheVariants.{Disable, Enable, LongPackets, ClearFlags, Clear}
 use Rattle.bits.specs.Words.{pick, clear, has}
 use Rattle.bits.specs.Flags.{AUTO_INC, RESET}
 use Rattle.registers.specs.Fields.{with_configuration, with_fetched}
@@ -62,17 +63,17 @@ module _ (g : Regs) where
   unfolding stepped
   kept_stepped = pick_of (SameCard g) (has AUTO_INC g.mode) (λ _. search) (λ _. same_card g)
 
-  kept_commanded : (c : Command) → SameCard g (commanded g c)
+  kept_commanded : (c : Option Command) → SameCard g (commanded g c)
   unfolding commanded
-  kept_commanded Illegal = same_card g
-  kept_commanded (Disable Transmit) = search
-  kept_commanded (Disable Receive) = search
-  kept_commanded (Enable Transmit p) = search
-  kept_commanded (Enable Receive p) = search
-  kept_commanded (LongPackets l) = search
-  kept_commanded (ClearFlags p r) = search
-  kept_commanded (Clear Transmit) = search
-  kept_commanded (Clear Receive) = search
+  kept_commanded None = same_card g
+  kept_commanded (Some (Disable Transmit)) = search
+  kept_commanded (Some (Disable Receive)) = search
+  kept_commanded (Some (Enable Transmit p)) = search
+  kept_commanded (Some (Enable Receive p)) = search
+  kept_commanded (Some (LongPackets l)) = search
+  kept_commanded (Some (ClearFlags p r)) = search
+  kept_commanded (Some (Clear Transmit)) = search
+  kept_commanded (Some (Clear Receive)) = search
 
   pub same_read : (k : ℕ) → SameCard g (after_read g k)
   unfolding after_read

@@ -7,8 +7,9 @@ use lib.Dec.{eqb}
 use Rattle.bits.specs.declared.way.Way.TheVariants.{Transmit, Receive}
 use Rattle.queues.specs.declared.queues.Side.{Side}
 use Rattle.registers.specs.declared.regs.Regs.{Regs}
+use Rattle.std.proofs.Common.{Option, Some, None}
 use Rattle.commands.specs.declared.commands.Command.{Command}
-use Rattle.commands.specs.declared.commands.Command.TheVariants.{Illegal, Disable, Enable, LongPackets, ClearFlags, Clear}
+use Rattle.commands.specs.declared.commands.Command.TheVariants.{Disable, Enable, LongPackets, ClearFlags, Clear}
 use Rattle.bits.specs.Words.{pick, clear, has, all}
 use Rattle.bits.specs.Flags.{RESET, AUTO_INC, CANCEL}
 use Rattle.queues.specs.Queues as queues
@@ -49,33 +50,33 @@ module _ (g : Regs) (c : chaining g ≡ false) where
     unfolding sent
     sent_plain a = rw (c, plain_ended Transmit (side_of Transmit g) u.transmit a)
 
-    pub commanded_plain : (k : Command) → commanded g k ≡ plain_commanded g k
+    pub commanded_plain : (k : Option Command) → commanded g k ≡ plain_commanded g k
     unfolding commanded
-    commanded_plain Illegal = refl
-    commanded_plain (Disable Transmit) = rw (plain_disabled Transmit (side_of Transmit g) u.transmit)
-    commanded_plain (Disable Receive) = rw (plain_disabled Receive (side_of Receive g) u.receive)
-    commanded_plain (Enable Transmit p) = rw (c, plain_enabled Transmit (side_of Transmit g) u.transmit p)
-    commanded_plain (Enable Receive p) = rw (c, plain_enabled Receive (side_of Receive g) u.receive p)
-    commanded_plain (LongPackets l) = refl
-    commanded_plain (ClearFlags p r) = refl
-    commanded_plain (Clear Transmit) = rw (plain_cleared Transmit (side_of Transmit g) u.transmit)
-    commanded_plain (Clear Receive) = rw (plain_cleared Receive (side_of Receive g) u.receive)
+    commanded_plain None = refl
+    commanded_plain (Some (Disable Transmit)) = rw (plain_disabled Transmit (side_of Transmit g) u.transmit)
+    commanded_plain (Some (Disable Receive)) = rw (plain_disabled Receive (side_of Receive g) u.receive)
+    commanded_plain (Some (Enable Transmit p)) = rw (c, plain_enabled Transmit (side_of Transmit g) u.transmit p)
+    commanded_plain (Some (Enable Receive p)) = rw (c, plain_enabled Receive (side_of Receive g) u.receive p)
+    commanded_plain (Some (LongPackets l)) = refl
+    commanded_plain (Some (ClearFlags p r)) = refl
+    commanded_plain (Some (Clear Transmit)) = rw (plain_cleared Transmit (side_of Transmit g) u.transmit)
+    commanded_plain (Some (Clear Receive)) = rw (plain_cleared Receive (side_of Receive g) u.receive)
 
     pub unqueued_received : Unqueued (received g)
     unqueued_received = rw received_plain (search u)
 
-    unqueued_commanded : (k : Command) → Unqueued (commanded g k)
+    unqueued_commanded : (k : Option Command) → Unqueued (commanded g k)
     unqueued_commanded k = rw (commanded_plain k) (stays k)
       where
-        stays : (k : Command) → Unqueued (plain_commanded g k)
-        stays Illegal = u
-        stays (Disable Transmit) = search u
-        stays (Disable Receive) = search u
-        stays (Enable Transmit p) = search u
-        stays (Enable Receive p) = search u
-        stays (LongPackets l) = search u
-        stays (ClearFlags p r) = search u
-        stays (Clear w) = u
+        stays : (k : Option Command) → Unqueued (plain_commanded g k)
+        stays None = u
+        stays (Some (Disable Transmit)) = search u
+        stays (Some (Disable Receive)) = search u
+        stays (Some (Enable Transmit p)) = search u
+        stays (Some (Enable Receive p)) = search u
+        stays (Some (LongPackets l)) = search u
+        stays (Some (ClearFlags p r)) = search u
+        stays (Some (Clear w)) = u
 
     pub unqueued_write : (k v : ℕ) → Unqueued (after_write g k v)
     unfolding after_write configured stepped seventh_written

@@ -1,19 +1,23 @@
-use Rattle.std.proofs.Common.{sym, ap, ◌∙◌, arith, rules, below_more}
-use Rattle.commands.specs.declared.commands.Legal.{Legal}
+use Rattle.std.proofs.Common.{rules, ◌≡◌, Some, None, Option, tests, ap, ◌∙◌, option_map, eqb, Bor}
+use Rattle.std.specs.Option.{MatchOption, IsSomeAnd}
+use Rattle.std.proofs.lemmas.Iterator.{YieldsList-from_slice}
+use Rattle.std.proofs.lemmas.Iterator.Search.{find_from_yields_List}
 use Rattle.commands.specs.Commands.{command_of}
-use Rattle.commands.proofs.Legal.{unlisted, legal_at}
+use Rattle.commands.specs.declared.commands.Command.{Command}
+use Rattle.commands.specs.declared.commands.Legal.{Legal}
+use Rattle.commands.proofs.Legal.{table, found}
 use Rattle.commands.proofs.commands.decode.Goals as goal
 
-pub returns-then-legal-byte : goal.returns-then-legal-byte
-unfolding command_of
-returns-then-legal-byte c =
-    let e = legal_at c.loop-i.i (search rules) in
-    ap (λ (l : Legal). l.1) e ∙ ap command_of (sym (ap (λ (l : Legal). l.0) e) ∙ c.if-legal-byte.true)
+-- the command of the row that was found
+taken : (o : Option (Bor Legal)) (r : Option Command) (P : Bor Legal → Command → Type 0) → MatchOption o (r ≡ None) (λ x. IsSomeAnd r (P x))
+    → ((x : Bor Legal) (k : Command) → P x k → k ≡ x.now.1) → r ≡ option_map (λ (l : Legal). l.1) (option_map (λ x. x.now) o)
+taken None r P h f = h
+taken (Some x) (Some k) P h f = ap Some (f x k h)
+taken (Some x) None P h f = absurd h
 
-pub loop-i-preserved : goal.loop-i-preserved
-unfolding command_of
-loop-i-preserved c =
-    (search rules, below_more _ _ c.loop-i.invariant.1 (λ e. c.if-legal-byte.false (ap (λ (l : Legal). l.0) (legal_at c.loop-i.i (search rules)) ∙ e)))
-
+-- src/commands.rt:52:1
 pub returns : goal.returns
-returns c = sym (unlisted _ (search rules) (λ j h e. c.loop-i.invariant.1 j (omega arith) e))
+unfolding command_of
+returns c =
+  let e = find_from_yields_List (λ (l : Legal). eqb l.0 c.args.byte) _ _ _ c.find.ensures.ran (YieldsList-from_slice table c.iter.ensures.rest) (λ x b q k. search (rules, tests)) in
+  taken c.find.result c.map.result _ c.map.ensures.cases (λ x k p. search rules) ∙ ap (option_map (λ (l : Legal). l.1)) e ∙ found c.args.byte (search rules)
