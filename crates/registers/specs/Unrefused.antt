@@ -1,6 +1,6 @@
 -- C-16 leaves a row that no NAK is counted of as it was: what it changed, without it, and that those in use are these for such a row.
 -- Assumes nothing.
-use Rattle.std.specs.Prelude.{◌≡◌, Bool, ◌&&◌, ◌||◌}
+use Rattle.std.specs.Prelude.{◌≡◌, Some, Bool, ◌&&◌, ◌||◌}
 use Rattle.registers.specs.declared.regs.Regs.{Regs}
 use Rattle.bits.specs.declared.way.Way.TheVariants.{Transmit}
 use Rattle.commands.specs.declared.commands.Command.TheVariants.{ClearFlags}
@@ -16,7 +16,7 @@ pub record Unrefused (g : Regs) : Type 0 where
   -- a transmit ends, a cancel takes effect, Clear Flags: nothing else changes
   pub sent : (acknowledged : Bool) → sent g acknowledged ≡ with_side Transmit (queues.ended Transmit (chaining g) acknowledged (side_of Transmit g)) g
   pub cancelled : cancelled g ≡ receive_cancelled (with_side Transmit (queues.cancelled Transmit (side_of Transmit g)) g)
-  pub flags : (p r : Bool) → commanded g (ClearFlags p r) ≡ with_status (lower (pick p POR 0) (lower (pick r RECON 0) g.status)) g
+  pub flags : (p r : Bool) → commanded g (Some (ClearFlags p r)) ≡ with_status (lower (pick p POR 0) (lower (pick r RECON 0) g.status)) g
   -- "diagnostic and mask 0, bytes 13-15 zero"
   pub reset : software_reset g ≡ with_status 0x91 (with_diagnostic 0 (with_mask 0 (with_transmit queues.none (with_receive queues.none (with_long 0 g)))))
   -- "1 gives diagnostic status and then zeroes it"

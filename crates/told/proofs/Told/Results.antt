@@ -1,13 +1,11 @@
 -- What a call answers, and the number that it tells.
 -- Assumes nothing.
 use mathlib.Core.Path.{◌≡◌, refl, sym, ◌∙◌, ap}
-use mathlib.Core.Bool.{Bool, true, false, false≢true}
-use Prim.Native.Nat.{ℕ, ◌<◌}
-use native.Mathlib.Omega.{arith}
+use mathlib.Core.Bool.{Bool, false}
+use Prim.Native.Nat.{ℕ}
 use lib.Dec.{eqb}
 use Rattle.std.proofs.Common.{Result, Ok, Err}
 use Rattle.std.specs.Result.{IsErrAnd}
-use Rattle.bits.specs.Words.{pick}
 use Rattle.told.specs.declared.refusals.Refusal.{Refusal}
 use Rattle.told.specs.declared.refusals.Refusal.TheVariants.{Shape, Row, Register, Value, NotReady, Direction, Busy, Online, Page, Duplicate, Alone, Room, Length, Mark, OrderId, Flags, Name, Twice}
 use Rattle.told.specs.Numbers.{DONE, refuse}
