@@ -1,7 +1,10 @@
 // Document 01, "Numbers a caller may get", with those of C-12: what a call is refused with.
-ghost use Rattle.std.specs.Prelude.{◌≡◌};
+ghost use Rattle.std.specs.Prelude.{◌≡◌, Some};
 ghost use Rattle.told.specs.Numbers.{DONE, refuse};
-ghost use Rattle.told.specs.Refusals.{number_of, number};
+ghost use Rattle.told.specs.Refusals.{name_of, number, number_of};
+
+use std::error::Error;
+use std::fmt;
 
 #[derive(Clone, Copy, Debug, PartialEq, Eq)]
 pub enum Refusal {
@@ -53,6 +56,32 @@ impl Refusal {
         }
     }
 
+    // The name that document 01 gives it.
+    pub fn name(self) -> &'static str
+        ensures { result.now ≡ name_of self }
+    {
+        match self {
+            Refusal::Shape => "SHAPE",
+            Refusal::Row => "ROW",
+            Refusal::Register => "REGISTER",
+            Refusal::Value => "VALUE",
+            Refusal::NotReady => "NOTREADY",
+            Refusal::Direction => "DIRECTION",
+            Refusal::Busy => "BUSY",
+            Refusal::Online => "ONLINE",
+            Refusal::Page => "PAGE",
+            Refusal::Duplicate => "DUPLICATE",
+            Refusal::Alone => "ALONE",
+            Refusal::Room => "ROOM",
+            Refusal::Length => "LENGTH",
+            Refusal::Mark => "MARK",
+            Refusal::OrderId => "ORDER-ID",
+            Refusal::Flags => "FLAGS",
+            Refusal::Name => "NAME",
+            Refusal::Twice => "TWICE",
+        }
+    }
+
     // Refused where the test holds; else the next test is asked.
     #[tactic(auto, unfolding(crate::specs::Numbers::refuse))]
     pub fn when(self, test: bool) -> Result<(), Refusal>
@@ -61,3 +90,13 @@ impl Refusal {
         if test { Err(self) } else { Ok(()) }
     }
 }
+
+impl fmt::Display for Refusal {
+    ghost output = { λ e. Some (name_of e) };
+
+    fn fmt<W: fmt::Write>(&self, f: &mut fmt::Formatter<W>) -> fmt::Result {
+        f.write_str(self.name())
+    }
+}
+
+impl Error for Refusal {}
