@@ -9,9 +9,10 @@ use native.Mathlib.Omega.{arith}
 use lib.Dec.{eqb}
 use lib.ListN.{length, get_or, drop, drop_of_length-le}
 use lib.Seq.{drop-cons}
+use Rattle.std.specs.Prelude.{Some, None}
 use borrow.Author.Tests.{eq-eqb, ne_eqb, le-leb, lt-leb}
 use Rattle.words.specs.Numbers.{digit, digits, value_after, MOST, is_number, number_of}
-use Rattle.words.proofs.Bools.{and_false}
+use Rattle.std.proofs.Math.Bool.{and-false}
 
 pub digits_end : (s : List ℕ) (i : ℕ) → length s ≤ i → digits (drop i s) ≡ true
 unfolding digits
@@ -44,23 +45,23 @@ value_least (b ∷ s) v = omega (arith, value_least s (10 * v + (b - 48)))
 
 -- ---- the answer
 module _ (s : List ℕ) where
-  pub none_empty : length s ≡ 0 → record { ok = false; value = 0 } ≡ number_of s
+  pub none_empty : length s ≡ 0 → None ≡ number_of s
   unfolding number_of is_number
   none_empty e = rw (eq-eqb _ _ e)
 
-  pub none_digits : digits s ≡ false → record { ok = false; value = 0 } ≡ number_of s
+  pub none_digits : digits s ≡ false → None ≡ number_of s
   unfolding number_of is_number
-  none_digits t = rw (t, and_false (not (eqb (length s) 0)))
+  none_digits t = rw (t, and-false (not (eqb (length s) 0)))
 
-  none_large : MOST < value_after 0 s → record { ok = false; value = 0 } ≡ number_of s
+  none_large : MOST < value_after 0 s → None ≡ number_of s
   unfolding number_of is_number
-  none_large h = rw (lt-leb _ _ h, and_false (not (eqb (length s) 0) && digits s))
+  none_large h = rw (lt-leb _ _ h, and-false (not (eqb (length s) 0) && digits s))
 
   pub none_over : (i v : ℕ) → i < length s → value_after 0 s ≡ value_after v (drop i s) → MOST < 10 * v + (get_or s i 0 - 48)
-      → record { ok = false; value = 0 } ≡ number_of s
+      → None ≡ number_of s
   none_over i v h e g =
       none_large (omega (arith, e, value_more s i h v, value_least (drop (i + 1) s) (10 * v + (get_or s i 0 - 48))))
 
-  pub some_number : (v : ℕ) → (length s ≡ 0 → ⊥) → digits s ≡ true → value_after 0 s ≡ v → v ≤ MOST → record { ok = true; value = v } ≡ number_of s
+  pub some_number : (v : ℕ) → (length s ≡ 0 → ⊥) → digits s ≡ true → value_after 0 s ≡ v → v ≤ MOST → Some v ≡ number_of s
   unfolding number_of is_number
   some_number v n t e h = rw (ne_eqb _ _ n, t, e, le-leb _ _ h)

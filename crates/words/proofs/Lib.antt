@@ -1,4 +1,3 @@
-pub mod Bools
 pub mod Lines
 pub mod Digits
 pub mod Pairs

@@ -11,41 +11,29 @@ use lib.Dec.{eqb}
 use lib.ListN.{length, get_or, take, drop, length-take, length-drop, drop_of_length-le}
 use lib.Seq.{drop-cons, drop-drop}
 use borrow.Author.Tests.{eq-eqb, ne_eqb}
-use Rattle.words.proofs.Bools.{and_false}
-use Rattle.words.specs.Words.{pick, SPACE, up_to, past, part, part_from, count, spaced, same}
+use mathlib.Core.Logic.{◌≢◌}
+use Rattle.std.specs.List.{AllWithin, HoldsAt}
+use Rattle.std.specs.Prelude.{Option}
+use Rattle.std.specs.Option.{MatchOption, unwrap_or}
+use Rattle.std.proofs.lemmas.Iterator.{index_from_first}
+use Rattle.words.specs.Words.{pick, SPACE, up_to, past, part, part_from, spaced}
+
+-- how many bytes stand before the first `stop`: what a search for its place gives
+pub first_place : (stop : ℕ) (s : List ℕ) (r : Option ℕ)
+    → MatchOption r (AllWithin (λ b. b ≢ stop) s 0 (length s)) (λ i. (i < length s) × HoldsAt (λ b. b ≡ stop) s i × AllWithin (λ b. b ≢ stop) s 0 i)
+    → length (up_to stop s) ≡ unwrap_or r (length s)
+unfolding up_to
+first_place stop =
+    index_from_first (λ s. length (up_to stop s)) (λ b. b ≡ stop) (λ b. b ≢ stop) refl (λ b s e. rw (eq-eqb _ _ e)) (λ b s n. rw (ne_eqb _ _ n, add-one))
 
 -- ---- past the end
 module _ (s : List ℕ) (i : ℕ) (h : length s ≤ i) where
-  pub first_end : (stop : ℕ) → length (up_to stop (drop i s)) ≡ 0
-  unfolding up_to
-  first_end stop = rw (drop_of_length-le s h)
-
-  pub count_end : count (drop i s) ≡ 1
-  unfolding count
-  count_end = rw (drop_of_length-le s h)
-
   pub spaced_end : (gap : Bool) → spaced gap (drop i s) ≡ not gap
   unfolding spaced
   spaced_end gap = rw (drop_of_length-le s h)
 
 -- ---- at a byte
 module _ (s : List ℕ) (i : ℕ) (h : i < length s) where
-  pub first_stop : (stop : ℕ) → get_or s i 0 ≡ stop → length (up_to stop (drop i s)) ≡ 0
-  unfolding up_to
-  first_stop stop e = rw (drop-cons s i 0 h, eq-eqb _ _ e)
-
-  pub first_more : (stop : ℕ) → (get_or s i 0 ≡ stop → ⊥) → length (up_to stop (drop i s)) ≡ suc (length (up_to stop (drop (i + 1) s)))
-  unfolding up_to
-  first_more stop n = rw (drop-cons s i 0 h, ne_eqb _ _ n, add-one)
-
-  pub count_space : get_or s i 0 ≡ SPACE → count (drop i s) ≡ suc (count (drop (i + 1) s))
-  unfolding count
-  count_space e = rw (drop-cons s i 0 h, eq-eqb _ _ e, add-one)
-
-  pub count_more : (get_or s i 0 ≡ SPACE → ⊥) → count (drop i s) ≡ count (drop (i + 1) s)
-  unfolding count
-  count_more n = rw (drop-cons s i 0 h, ne_eqb _ _ n, add-one)
-
   spaced_at : (gap : Bool) → spaced gap (drop i s) ≡ (not (gap && eqb (get_or s i 0) SPACE) && spaced (eqb (get_or s i 0) SPACE) (drop (i + 1) s))
   unfolding spaced
   spaced_at gap = rw (drop-cons s i 0 h, add-one)
@@ -104,9 +92,9 @@ module _ (stop : ℕ) where
         let d : end - from ≡ length (up_to stop (drop from s)) = omega arith in
         rw d (sym (first_is (drop from s)))
 
-    pub part_here : take (end - from) (drop from s) ≡ part stop (drop from s) 0
+    pub part_here : (k : ℕ) → k ≡ 0 → part stop (drop from s) k ≡ take (end - from) (drop from s)
     unfolding part
-    part_here = first_here
+    part_here k z = rw z (sym first_here)
 
     pub past_here : past stop (drop from s) ≡ drop (end + 1) s
     past_here =
@@ -125,29 +113,6 @@ module _ (stop : ℕ) where
     from_past k p =
         let f = from_next (drop from s) k p ∙ ap (λ (l : List ℕ). suc (length (up_to stop (drop from s))) + part_from stop l (k - 1)) past_here in
         omega (arith, f)
-
--- ---- two words
-pub same_lengths : (s t : List ℕ) → (length s ≡ length t → ⊥) → same s t ≡ false
-unfolding same
-same_lengths [] [] n = absurd (n refl)
-same_lengths [] (b ∷ t) n = refl
-same_lengths (a ∷ s) [] n = refl
-same_lengths (a ∷ s) (b ∷ t) n = rw (same_lengths s t (λ e. n (ap suc e))) (and_false (eqb a b))
-
-module _ (s t : List ℕ) (i : ℕ) where
-  pub same_end : length s ≤ i → length s ≡ length t → same (drop i s) (drop i t) ≡ true
-  unfolding same
-  same_end h e =
-      let g : length t ≤ i = omega arith in
-      rw (drop_of_length-le s h, drop_of_length-le t g)
-
-  pub same_not : i < length s → i < length t → (get_or s i 0 ≡ get_or t i 0 → ⊥) → same (drop i s) (drop i t) ≡ false
-  unfolding same
-  same_not h g n = rw (drop-cons s i 0 h, drop-cons t i 0 g, ne_eqb _ _ n)
-
-  pub same_more : i < length s → i < length t → get_or s i 0 ≡ get_or t i 0 → same (drop i s) (drop i t) ≡ same (drop (i + 1) s) (drop (i + 1) t)
-  unfolding same
-  same_more h g e = rw (drop-cons s i 0 h, drop-cons t i 0 g, eq-eqb _ _ e, add-one)
 
 -- ---- a part is no longer than its text
 module _ (stop : ℕ) where

@@ -7,7 +7,8 @@ use Prim.Native.Nat.{ℕ, zero, suc, ◌+◌, ◌≤◌}
 use native.Mathlib.Omega.{arith}
 use lib.Dec.{eqb}
 use lib.ListN.{length}
-use Rattle.words.specs.Words.{pick, NEWLINE, up_to, past, part, part_from, word, same, row_of, row, row_of_from, row_from}
+use Rattle.std.specs.Str.{bytes_eq}
+use Rattle.words.specs.Words.{pick, NEWLINE, up_to, past, part, part_from, word, row_of, row, row_of_from, row_from}
 use Rattle.words.proofs.Lines.{part_nil}
 use Rattle.words.proofs.Tables.{row_nil}
 
@@ -42,7 +43,7 @@ module _ (name : List ℕ) where
   lines_there : (n : ℕ) (table : List ℕ) → (row_of n table name ≡ [] → ⊥) → row_of_from n table name ≤ length table
   unfolding row_of row_of_from
   lines_there zero table f = absurd (f refl)
-  lines_there (suc n) table f = line_there n table (same (word (up_to NEWLINE table) 0) name) (lines_there n (past NEWLINE table)) f
+  lines_there (suc n) table f = line_there n table (bytes_eq (word (up_to NEWLINE table) 0) name) (lines_there n (past NEWLINE table)) f
 
   pub row_there : (table : List ℕ) → (row table name ≡ [] → ⊥) → row_from table name ≤ length table
   unfolding row row_from

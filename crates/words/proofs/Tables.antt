@@ -9,7 +9,8 @@ use native.Mathlib.Omega.{arith}
 use native.Mathlib.Nat.{not-suc-le-zero}
 use lib.ListN.{length, take, drop, length-drop, drop_of_length-le}
 use Rattle.words.proofs.Lines.{first_here, past_here}
-use Rattle.words.specs.Words.{pick, NEWLINE, up_to, past, word, same, row_of, row_of_from}
+use Rattle.std.specs.Str.{bytes_eq}
+use Rattle.words.specs.Words.{pick, NEWLINE, up_to, past, word, row_of, row_of_from}
 
 both : (b : Bool) → {l m : List ℕ} → l ≡ [] → m ≡ [] → pick b l m ≡ []
 both true e f = e
@@ -18,17 +19,17 @@ both false e f = f
 pub row_nil : (n : ℕ) (name : List ℕ) → row_of n [] name ≡ []
 unfolding row_of up_to past
 row_nil zero name = refl
-row_nil (suc n) name = both (same (word [] 0) name) refl (row_nil n name)
+row_nil (suc n) name = both (bytes_eq (word [] 0) name) refl (row_nil n name)
 
 row_next : (n : ℕ) (table name : List ℕ) → 0 < n
-    → row_of n table name ≡ pick (same (word (up_to NEWLINE table) 0) name) (up_to NEWLINE table) (row_of (n - 1) (past NEWLINE table) name)
+    → row_of n table name ≡ pick (bytes_eq (word (up_to NEWLINE table) 0) name) (up_to NEWLINE table) (row_of (n - 1) (past NEWLINE table) name)
 unfolding row_of
 row_next zero table name h = absurd (not-suc-le-zero h)
 row_next (suc n) table name h = simp unary_clauses refl
 
 from_next : (n : ℕ) (table name : List ℕ) → 0 < n
     → row_of_from n table name
-    ≡ pick (same (word (up_to NEWLINE table) 0) name) 0 (suc (length (up_to NEWLINE table)) + row_of_from (n - 1) (past NEWLINE table) name)
+    ≡ pick (bytes_eq (word (up_to NEWLINE table) 0) name) 0 (suc (length (up_to NEWLINE table)) + row_of_from (n - 1) (past NEWLINE table) name)
 unfolding row_of_from
 from_next zero table name h = absurd (not-suc-le-zero h)
 from_next (suc n) table name h = simp unary_clauses refl
@@ -41,7 +42,7 @@ from_none table name from left n z e =
     omega (arith, f, length-drop from table)
 
 module _ (table name : List ℕ) (from end : ℕ) (h : from ≤ length table) (e : end ≡ from + length (up_to NEWLINE (drop from table))) (n : ℕ)
-    (m : 0 < n) (w : List ℕ) (ew : w ≡ word (take (end - from) (drop from table)) 0) (b : Bool) (eb : b ≡ same w name) where
+    (m : 0 < n) (w : List ℕ) (ew : w ≡ word (take (end - from) (drop from table)) 0) (b : Bool) (eb : b ≡ bytes_eq w name) where
   tested : row_of n (drop from table) name ≡ pick b (take (end - from) (drop from table)) (row_of (n - 1) (drop (end + 1) table) name)
   tested =
       let l = drop from table in

@@ -1,8 +1,7 @@
 -- The number that a word spells.
 -- Assumes nothing.
-use Rattle.std.specs.Prelude.{Bool, true, false, not, ◌&&◌, List, [], ◌∷◌, ℕ, ◌+◌, ◌*◌, ◌-◌, eqb, leb, length}
+use Rattle.std.specs.Prelude.{Bool, true, not, ◌&&◌, Option, Some, None, List, [], ◌∷◌, ℕ, ◌+◌, ◌*◌, ◌-◌, eqb, leb, length}
 use Rattle.words.specs.Words.{pick}
-use Rattle.words.specs.declared.numbers.Number.{Number}
 
 abbrev pub digit : ℕ → Bool
 digit b = leb 48 b && leb b 57
@@ -23,5 +22,5 @@ MOST = 4294967295
 unfoldable pub is_number : List ℕ → Bool
 is_number s = not (eqb (length s) 0) && digits s && leb (value_after 0 s) MOST
 
-unfoldable pub number_of : List ℕ → Number
-number_of s = pick (is_number s) (record { ok = true; value = value_after 0 s }) (record { ok = false; value = 0 })
+unfoldable pub number_of : List ℕ → Option ℕ
+number_of s = pick (is_number s) (Some (value_after 0 s)) None

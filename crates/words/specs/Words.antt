@@ -1,6 +1,7 @@
 -- The words of a line.
 -- Assumes nothing.
-use Rattle.std.specs.Prelude.{Bool, true, false, not, ◌&&◌, List, [], ◌∷◌, ℕ, zero, suc, ◌+◌, eqb, length}
+use Rattle.std.specs.Prelude.{Bool, true, false, not, ◌&&◌, List, [], ◌∷◌, ℕ, zero, suc, ◌+◌, eqb, length, count_by}
+use Rattle.std.specs.Str.{bytes_eq}
 
 abbrev pub pick : {A : Type 0} → Bool → A → A → A
 pick true a b = a
@@ -39,26 +40,18 @@ word_from = part_from SPACE
 
 -- one word more than there are spaces
 unfoldable pub count : List ℕ → ℕ
-count [] = 1
-count (b ∷ s) = pick (eqb b SPACE) (suc (count s)) (count s)
+count s = count_by (λ b. eqb b SPACE) s + 1
 
 -- no word is empty: none of the bytes that follow a gap is a space, and the last follows none. The line starts with a gap (true)
 unfoldable pub spaced : Bool → List ℕ → Bool
 spaced gap [] = not gap
 spaced gap (b ∷ s) = not (gap && eqb b SPACE) && spaced (eqb b SPACE) s
 
--- the same bytes
-unfoldable pub same : List ℕ → List ℕ → Bool
-same [] [] = true
-same [] (b ∷ t) = false
-same (a ∷ s) [] = false
-same (a ∷ s) (b ∷ t) = eqb a b && same s t
-
 -- the first of the n lines of a table that has the name as its first word; nothing where none has
 unfoldable pub row_of : ℕ → List ℕ → List ℕ → List ℕ
 row_of zero table name = []
 row_of (suc n) table name =
-    pick (same (word (up_to NEWLINE table) 0) name) (up_to NEWLINE table) (row_of n (past NEWLINE table) name)
+    pick (bytes_eq (word (up_to NEWLINE table) 0) name) (up_to NEWLINE table) (row_of n (past NEWLINE table) name)
 
 -- a table has no more lines than bytes
 unfoldable pub row : List ℕ → List ℕ → List ℕ
@@ -68,7 +61,7 @@ row table name = row_of (length table) table name
 unfoldable pub row_of_from : ℕ → List ℕ → List ℕ → ℕ
 row_of_from zero table name = suc (length table)
 row_of_from (suc n) table name =
-    pick (same (word (up_to NEWLINE table) 0) name) 0 (suc (length (up_to NEWLINE table)) + row_of_from n (past NEWLINE table) name)
+    pick (bytes_eq (word (up_to NEWLINE table) 0) name) 0 (suc (length (up_to NEWLINE table)) + row_of_from n (past NEWLINE table) name)
 
 unfoldable pub row_from : List ℕ → List ℕ → ℕ
 row_from table name = row_of_from (length table) table name

@@ -1,47 +1,44 @@
 // A line's words, separated by spaces.
 ghost use Rattle.std.specs.Prelude.{◌≡◌, true, ◌+◌, ◌≤◌, length, drop};
 ghost use Rattle.places.specs.Places.{onward};
-ghost use Rattle.words.specs.Words.{up_to, part, part_from, word, word_from, row, row_from, count, spaced, same};
+ghost use Rattle.words.specs.Words.{up_to, part, part_from, word, word_from, row, row_from, count, spaced};
 
 const SPACE: u8 = b' ';
 
 const NEWLINE: u8 = b'\n';
 
+// Where the first `stop` is, or the text's length where there is none.
+fn first(text: &[u8], stop: u8) -> usize
+    ensures value { result ≡ length (up_to stop text.now) }
+    ensures upper_bound { result ≤ length text.now }
+{
+    text.iter().position(|&b| b == stop).unwrap_or(text.len())
+}
+
 // The end of the part that starts at `from`: the next `stop`, or the text's end.
-#[tactic(auto, using(crate::proofs::Lines::first_end, crate::proofs::Lines::first_stop, crate::proofs::Lines::first_more))]
 fn part_end(text: &[u8], stop: u8, from: usize) -> usize
     requires { from ≤ length text.now }
     ensures value { result ≡ from + length (up_to stop (drop from text.now)) }
     ensures upper_bound { result ≤ length text.now }
 {
-    let mut i = from;
-    while i < text.len() {
-        if text[i] == stop {
-            return i;
-        }
-        i += 1;
-    }
-    i
+    from + first(&text[from..], stop)
 }
 
 // Part k of the text, from 0, of those that `stop` separates; nothing where there is no such part.
-#[tactic(auto, using(crate::proofs::Lines::part_past, crate::proofs::Lines::part_missing, crate::proofs::Lines::from_past), unfolding(places::specs::Places::onward))]
+#[tactic(auto, using(crate::proofs::Lines::part_here, crate::proofs::Lines::part_past, crate::proofs::Lines::part_missing, crate::proofs::Lines::from_past), unfolding(places::specs::Places::onward))]
 pub fn part(text: &[u8], stop: u8, k: usize) -> &[u8]
     ensures bytes { result.now ≡ part stop text.now k }
     ensures place { part_from stop text.now k ≤ length text.now → result.ref_ptr ≡ onward text.entry.ref_ptr (part_from stop text.now k) }
 {
     let mut from = 0;
-    let mut left = k;
-    while 0 < left {
+    for _ in 0..k {
         let end = part_end(text, stop, from);
         if end == text.len() {
             return &text[0..0];
         }
         from = end + 1;
-        left -= 1;
     }
-    let end = part_end(text, stop, from);
-    &text[from..end]
+    &text[from..part_end(text, stop, from)]
 }
 
 pub fn word(line: &[u8], k: usize) -> &[u8]
@@ -52,19 +49,11 @@ pub fn word(line: &[u8], k: usize) -> &[u8]
 }
 
 // How many words: one more than the spaces.
-#[tactic(auto, using(crate::proofs::Lines::count_end, crate::proofs::Lines::count_space, crate::proofs::Lines::count_more))]
+#[tactic(auto, unfolding(crate::specs::Words::count))]
 pub fn count(line: &[u8]) -> usize
     ensures { result ≡ count line.now }
 {
-    let mut spaces = 0;
-    let mut i = 0;
-    while i < line.len() {
-        if line[i] == SPACE {
-            spaces += 1;
-        }
-        i += 1;
-    }
-    spaces + 1
+    line.iter().filter(|&&b| b == SPACE).count() + 1
 }
 
 // No word is empty: single spaces, and none at either end.
@@ -73,34 +62,14 @@ pub fn spaced(line: &[u8]) -> bool
     ensures { result ≡ spaced true line.now }
 {
     let mut gap = true;
-    let mut i = 0;
-    while i < line.len() {
-        let space = line[i] == SPACE;
+    for &b in line {
+        let space = b == SPACE;
         if gap & space {
             return false;
         }
         gap = space;
-        i += 1;
     }
     !gap
-}
-
-// The two have the same bytes.
-#[tactic(auto, using(crate::proofs::Lines::same_lengths, crate::proofs::Lines::same_end, crate::proofs::Lines::same_not, crate::proofs::Lines::same_more))]
-fn same(word: &[u8], name: &[u8]) -> bool
-    ensures { result ≡ same word.now name.now }
-{
-    if word.len() != name.len() {
-        return false;
-    }
-    let mut i = 0;
-    while i < word.len() {
-        if word[i] != name[i] {
-            return false;
-        }
-        i += 1;
-    }
-    true
 }
 
 // The first line of the table that has the name as its first word; nothing where none has.
@@ -110,18 +79,17 @@ pub fn row<'a>(table: &'a [u8], name: &'a [u8]) -> &'a [u8]
     ensures place { row_from table.now name.now ≤ length table.now → result.ref_ptr ≡ onward table.entry.ref_ptr (row_from table.now name.now) }
 {
     let mut from = 0;
-    let mut left = table.len();
-    while 0 < left {
+    // A table has no more lines than bytes.
+    for _ in 0..table.len() {
         let end = part_end(table, NEWLINE, from);
         let line = &table[from..end];
-        if same(word(line, 0), name) {
+        if word(line, 0) == name {
             return line;
         }
         if end == table.len() {
-            return &table[0..0];
+            break;
         }
         from = end + 1;
-        left -= 1;
     }
     &table[0..0]
 }
