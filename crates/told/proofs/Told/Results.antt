@@ -1,6 +1,7 @@
 -- What a call answers, and the number that it tells.
 -- Assumes nothing.
 use mathlib.Core.Path.{◌≡◌, refl, sym, ◌∙◌, ap}
+use mathlib.Core.List.{List, ◌++◌}
 use mathlib.Core.Bool.{Bool, false}
 use Prim.Native.Nat.{ℕ}
 use lib.Dec.{eqb}
@@ -8,9 +9,10 @@ use Rattle.std.proofs.Common.{Result, Ok, Err}
 use Rattle.std.specs.Result.{IsErrAnd}
 use Rattle.told.specs.declared.refusals.Refusal.{Refusal}
 use Rattle.told.specs.declared.refusals.Refusal.TheVariants.{Shape, Row, Register, Value, NotReady, Direction, Busy, Online, Page, Duplicate, Alone, Room, Length, Mark, OrderId, Flags, Name, Twice}
-use Rattle.told.specs.Numbers.{DONE, refuse}
+use Rattle.told.specs.Numbers as numbers
+use Rattle.told.specs.Numbers.{DONE, refuse, told}
 use borrow.Author.Tests.{eqb-false}
-use Rattle.told.proofs.Told.Smallest.{refuse_stays}
+use Rattle.told.proofs.Told.Smallest.{refuse_stays, told_first, told_second}
 use Rattle.told.specs.Refusals.{number_of, number}
 
 -- a refusal has a number of its own, and DONE is none's
@@ -45,3 +47,11 @@ stands e n k t h = h ∙ sym (refuse_stays n k t (λ z. eqb-false (number_of e) 
 
 pub handed_number : {A : Type 0} (r : Result A Refusal) (e : Refusal) (n : ℕ) → IsErrAnd r (λ y. y ≡ e) → number_of e ≡ n → number r ≡ n
 handed_number r e n h p = rw (handed_on r e h) p
+
+-- ---- a list in two parts: the number told of the first stands, or the second is asked
+module _ (a b : List numbers.Refusal) where
+  pub first_stands : (e : Refusal) → number_of e ≡ told a → number_of e ≡ told (a ++ b)
+  first_stands e h = h ∙ sym (told_first a b (λ z. eqb-false (number_of e) DONE (not_done e) (h ∙ z)))
+
+  pub then_asked : {A B : Type 0} (r : Result A Refusal) (s : Result B Refusal) (v : B) → s ≡ Ok v → number s ≡ told a → number r ≡ told b → number r ≡ told (a ++ b)
+  then_asked r s v w t q = q ∙ sym (told_second a b (sym t ∙ ap number w))
