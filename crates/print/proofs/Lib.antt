@@ -1,2 +1,1 @@
 pub mod Gathers
-pub mod Decimals

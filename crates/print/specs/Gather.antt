@@ -1,6 +1,7 @@
 -- Text gathered in a buffer: what each byte does to the buffer and to the count of its bytes, and the text of numbers and bytes.
 -- Assumes nothing.
-use Rattle.std.specs.Prelude.{◌≡◌, ◌⊎◌, Bool, true, false, cond, List, [], ◌∷◌, ◌++◌, ℕ, zero, suc, ◌+◌, ◌*◌, ◌/◌, ◌%◌, ◌^◌, ◌≤◌, ltb, get_or, set}
+use Rattle.std.specs.Fmt.{decimal}
+use Rattle.std.specs.Prelude.{◌≡◌, ◌⊎◌, Bool, true, false, cond, List, [], ◌∷◌, ◌++◌, ℕ, ◌+◌, ◌/◌, ◌%◌, ◌≤◌, ltb, get_or, set, Result, MatchResult}
 
 abbrev pub ROOM : ℕ
 ROOM = 4096
@@ -28,28 +29,24 @@ gather g [] = g
 gather g (b ∷ s) = gather (put g b) s
 
 -- a write failed while the text s was gathered: a front of it is gathered, which fills the buffer
-unfoldable pub Stopped : Gathered → List ℕ → List ℕ → Type 0
-Stopped g s out = (front rest : List ℕ) × (s ≡ front ++ rest) × (ROOM ≤ (gather g front).count) × (out ≡ (gather g front).held)
+unfoldable pub Stopped : Gathered → List ℕ → Gathered → Type 0
+Stopped g s h = (front rest : List ℕ) × (s ≡ front ++ rest) × (ROOM ≤ (gather g front).count) × (h ≡ gather g front)
+
+-- the text s is gathered, or a write failed
+abbrev pub Gathers : {E : Type 0} → Result Unit E → Gathered → List ℕ → Gathered → Type 0
+Gathers r g s h = MatchResult r (λ u. h ≡ gather g s) (λ e. Stopped g s h)
 
 -- a write failed while the text s was gathered, or after that
-abbrev pub Unwritten : Gathered → List ℕ → List ℕ → Type 0
-Unwritten g s out = Stopped g s out ⊎ (out ≡ (gather g s).held)
+abbrev pub Unwritten : Gathered → List ℕ → Gathered → Type 0
+Unwritten g s h = Stopped g s h ⊎ (h ≡ gather g s)
 
--- the buffer after a line of its own
-unfoldable pub line_of : List ℕ → List ℕ → List ℕ
-line_of out s = (put (gather (got out 0) s) NEWLINE).held
+-- what is left when the text s has ended a line: nothing is gathered
+unfoldable pub line_of : Gathered → List ℕ → Gathered
+line_of g s = got (put (gather g s) NEWLINE).held 0
 
--- the ASCII code of a digit below 16: 0 to 9, then a to f
-abbrev pub glyph : ℕ → ℕ
-glyph d = cond (ltb d 10) (48 + d) (87 + d)
-
--- a number in decimal, of at most k digits
-unfoldable pub digits : ℕ → ℕ → List ℕ
-digits zero n = []
-digits (suc k) n = cond (ltb n 10) (glyph n ∷ []) (digits k (n / 10) ++ (glyph (n % 10) ∷ []))
-
-unfoldable pub decimal : ℕ → List ℕ
-decimal n = digits 20 n
+-- the text s has ended a line, or a write failed
+abbrev pub Ends : {E : Type 0} → Result Unit E → Gathered → List ℕ → Gathered → Type 0
+Ends r g s h = MatchResult r (λ u. h ≡ line_of g s) (λ e. Unwritten g (s ++ (NEWLINE ∷ [])) h)
 
 -- bytes as pairs of digits in hex, 0 to 9 and A to F
 abbrev pub digit : ℕ → ℕ
@@ -63,11 +60,6 @@ hex (b ∷ s) = digit (b / 16) ∷ digit (b % 16) ∷ hex s
 unfoldable pub spaced : List ℕ → List ℕ
 spaced [] = []
 spaced (b ∷ s) = SPACE ∷ hex (b ∷ s)
-
--- the low k bytes of a number, the highest first
-unfoldable pub bytes_of : ℕ → ℕ → List ℕ
-bytes_of zero n = []
-bytes_of (suc k) n = n / 2 ^ (8 * k) % 256 ∷ bytes_of k n
 
 -- a space, where one is wanted; a number at the right of a column of four
 unfoldable pub pad : Bool → List ℕ

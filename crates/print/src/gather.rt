@@ -1,154 +1,165 @@
-// Text gathered in a buffer, and written where the buffer is full or the text ends. Each call hands back how many
-// bytes are gathered; where a write fails, the rest of the text is not gathered.
-ghost use Rattle.std.specs.Prelude.{◌≡◌, ◌≤◌, [], ◌∷◌, ◌++◌, IfOk, OnOk, OnErr};
-ghost use Rattle.print.specs.Gather.{got, put, gather, Stopped, Unwritten, decimal, hex, spaced, bytes_of, pad, column, SPACE, NEWLINE};
+// Text gathered in a buffer, and written where the buffer is full or the line ends. Where a write fails, its error is
+// handed back, and the rest of the text is not gathered.
+ghost use Rattle.std.specs.Prelude.{◌≡◌, [], ◌∷◌, ◌++◌};
+ghost use Rattle.std.specs.Fmt.{decimal};
+ghost use Rattle.std.specs.Int.{to_be_bytes, w64};
+ghost use Rattle.print.specs.Gather.{Gathers, Ends, hex, spaced, pad, column, SPACE};
 
 use std::io;
+use std::marker::Model;
 
 pub const ROOM: usize = 4096;
 
 const DIGITS: [u8; 16] = *b"0123456789ABCDEF";
 
-#[tactic(auto, unfolding(crate::specs::Gather::put))]
-fn put(rt: &impl Print, out: &mut [u8; ROOM], n: usize, b: u8) -> io::Result<usize>
-    ensures ok { IfOk result (λ m. got out.new m ≡ put (got out.old n) b) }
-    ensures err { OnErr result ((ROOM ≤ n) × (out.new ≡ out.old)) }
-{
-    if n < ROOM {
-        out[n] = b;
-        return Ok(n + 1);
+// The text that is on its way to `to`: the first `count` bytes of `held`.
+pub struct Output<'a, P: Print> {
+    to: &'a P,
+    held: [u8; ROOM],
+    count: usize,
+}
+
+impl<'a, P: Print> Model for Output<'a, P> {
+    ghost use Rattle.std.specs.Prelude.{◌≤◌};
+    ghost use Rattle.print.specs.Gather.{Gathered, got, ROOM as room};
+
+    ghost Value = { Gathered };
+
+    ghost view = { λ o. got o.held o.count };
+
+    ghost invariant = { λ o. o.count ≤ room };
+}
+
+impl<'a, P: Print> Output<'a, P> {
+    // Nothing is gathered yet.
+    pub fn new(to: &'a P) -> Output<'a, P>
+        ensures { result.count ≡ 0 }
+    {
+        Output {
+            to,
+            held: [0; ROOM],
+            count: 0,
+        }
     }
-    rt.write_all(out)?;
-    out[0] = b;
-    Ok(1)
-}
 
-pub fn text(rt: &impl Print, out: &mut [u8; ROOM], n: usize, s: &[u8]) -> io::Result<usize>
-    ensures ok { IfOk result (λ m. got out.new m ≡ gather (got out.old n) s.now) }
-    ensures err { OnErr result (Stopped (got out.old n) s.now out.new) }
-{
-    let mut to = n;
-    for i in 0..s.len() {
-        to = put(rt, out, to, s[i])?;
+    // A byte goes behind those that are gathered; where the buffer is full, what it holds is written first.
+    #[tactic(auto, using(crate::proofs::Gathers::stopped_none), unfolding(crate::specs::Gather::put, crate::specs::Gather::gather))]
+    fn put(&mut self, b: u8) -> io::Result<()>
+        ensures { Gathers result self.old (b ∷ []) self.new }
+    {
+        if self.count == ROOM {
+            self.to.write_all(&self.held)?;
+            self.count = 0;
+        }
+        self.held[self.count] = b;
+        self.count += 1;
+        Ok(())
     }
-    Ok(to)
-}
 
-fn decimal(rt: &impl Print, out: &mut [u8; ROOM], n: usize, number: usize) -> io::Result<usize>
-    ensures ok { IfOk result (λ m. got out.new m ≡ gather (got out.old n) (decimal number)) }
-    ensures err { OnErr result (Stopped (got out.old n) (decimal number) out.new) }
-{
-    let mut digits = itoa::Buffer::new();
-    text(rt, out, n, digits.format(number).as_bytes())
-}
-
-// A number after a space.
-pub fn number(rt: &impl Print, out: &mut [u8; ROOM], n: usize, number: usize) -> io::Result<usize>
-    ensures ok { IfOk result (λ m. got out.new m ≡ gather (got out.old n) (SPACE ∷ decimal number)) }
-    ensures err { OnErr result (Stopped (got out.old n) (SPACE ∷ decimal number) out.new) }
-{
-    let n = put(rt, out, n, b' ')?;
-    decimal(rt, out, n, number)
-}
-
-// A byte as two digits in hex.
-fn byte(rt: &impl Print, out: &mut [u8; ROOM], n: usize, b: u8) -> io::Result<usize>
-    ensures ok { IfOk result (λ m. got out.new m ≡ gather (got out.old n) (hex (b ∷ []))) }
-    ensures err { OnErr result (Stopped (got out.old n) (hex (b ∷ [])) out.new) }
-{
-    let n = put(rt, out, n, DIGITS[(b / 16) as usize])?;
-    put(rt, out, n, DIGITS[(b % 16) as usize])
-}
-
-fn bytes(rt: &impl Print, out: &mut [u8; ROOM], n: usize, s: &[u8]) -> io::Result<usize>
-    ensures ok { IfOk result (λ m. got out.new m ≡ gather (got out.old n) (hex s.now)) }
-    ensures err { OnErr result (Stopped (got out.old n) (hex s.now) out.new) }
-{
-    let mut to = n;
-    for i in 0..s.len() {
-        to = byte(rt, out, to, s[i])?;
+    #[tactic(auto, using(crate::proofs::Gathers::text_more, crate::proofs::Gathers::text_stop), unfolding(crate::specs::Gather::gather))]
+    pub fn text(&mut self, s: &[u8]) -> io::Result<()>
+        ensures { Gathers result self.old s.now self.new }
+    {
+        for &b in s {
+            self.put(b)?;
+        }
+        Ok(())
     }
-    Ok(to)
-}
 
-// Bytes after a space; nothing where there are none.
-pub fn spaced(rt: &impl Print, out: &mut [u8; ROOM], n: usize, s: &[u8]) -> io::Result<usize>
-    ensures ok { IfOk result (λ m. got out.new m ≡ gather (got out.old n) (spaced s.now)) }
-    ensures err { OnErr result (Stopped (got out.old n) (spaced s.now) out.new) }
-{
-    if s.len() == 0 {
-        return Ok(n);
+    fn decimal(&mut self, number: usize) -> io::Result<()>
+        ensures { Gathers result self.old (decimal number) self.new }
+    {
+        let mut digits = itoa::Buffer::new();
+        self.text(digits.format(number).as_bytes())
     }
-    let n = put(rt, out, n, b' ')?;
-    bytes(rt, out, n, s)
-}
 
-// A number as sixteen digits in hex.
-pub fn sixteen(rt: &impl Print, out: &mut [u8; ROOM], n: usize, number: u64) -> io::Result<usize>
-    ensures ok { IfOk result (λ m. got out.new m ≡ gather (got out.old n) (hex (bytes_of 8 number))) }
-    ensures err { OnErr result (Stopped (got out.old n) (hex (bytes_of 8 number)) out.new) }
-{
-    let mut to = n;
-    let mut left: u64 = 8;
-    while 0 < left {
-        left -= 1;
-        to = byte(rt, out, to, ((number >> (8 * left)) % 256) as u8)?;
+    // A number after a space.
+    #[tactic(auto, using(crate::proofs::Gathers::byte_first, crate::proofs::Gathers::byte_then))]
+    pub fn number(&mut self, number: usize) -> io::Result<()>
+        ensures { Gathers result self.old (SPACE ∷ decimal number) self.new }
+    {
+        self.put(b' ')?;
+        self.decimal(number)
     }
-    Ok(to)
-}
 
-// The first n bytes are written.
-fn write(rt: &impl Print, s: &[u8], n: usize) -> io::Result<()> {
-    if n <= s.len() {
-        rt.write_all(&s[0..n])?;
+    // A byte as two digits in hex.
+    #[tactic(auto, using(crate::proofs::Gathers::byte_first, crate::proofs::Gathers::byte_then), unfolding(crate::specs::Gather::hex))]
+    fn byte(&mut self, b: u8) -> io::Result<()>
+        ensures { Gathers result self.old (hex (b ∷ [])) self.new }
+    {
+        self.put(DIGITS[(b / 16) as usize])?;
+        self.put(DIGITS[(b % 16) as usize])
     }
-    Ok(())
-}
 
-// The line ends, and what is gathered is written.
-pub fn end(rt: &impl Print, out: &mut [u8; ROOM], n: usize) -> io::Result<()>
-    ensures ok { OnOk result (out.new ≡ (put (got out.old n) NEWLINE).held) }
-    ensures err { OnErr result (Unwritten (got out.old n) (NEWLINE ∷ []) out.new) }
-{
-    let n = put(rt, out, n, b'\n')?;
-    write(rt, out, n)
-}
-
-// A space, where one is wanted.
-fn pad(rt: &impl Print, out: &mut [u8; ROOM], n: usize, wanted: bool) -> io::Result<usize>
-    ensures ok { IfOk result (λ m. got out.new m ≡ gather (got out.old n) (pad wanted)) }
-    ensures err { OnErr result (Stopped (got out.old n) (pad wanted) out.new) }
-{
-    if !wanted {
-        return Ok(n);
+    #[tactic(auto, using(crate::proofs::Gathers::hex_more, crate::proofs::Gathers::hex_stop), unfolding(crate::specs::Gather::gather, crate::specs::Gather::hex))]
+    fn bytes(&mut self, s: &[u8]) -> io::Result<()>
+        ensures { Gathers result self.old (hex s.now) self.new }
+    {
+        for &b in s {
+            self.byte(b)?;
+        }
+        Ok(())
     }
-    put(rt, out, n, b' ')
-}
 
-// A number at the right of a column of four.
-fn column(rt: &impl Print, out: &mut [u8; ROOM], n: usize, number: usize) -> io::Result<usize>
-    ensures ok { IfOk result (λ m. got out.new m ≡ gather (got out.old n) (column number)) }
-    ensures err { OnErr result (Stopped (got out.old n) (column number) out.new) }
-{
-    let n = pad(rt, out, n, number < 1000)?;
-    let n = pad(rt, out, n, number < 100)?;
-    let n = pad(rt, out, n, number < 10)?;
-    decimal(rt, out, n, number)
-}
+    // Bytes after a space; nothing where there are none.
+    #[tactic(auto, using(crate::proofs::Gathers::byte_first, crate::proofs::Gathers::byte_then, crate::proofs::Gathers::no_bytes, crate::proofs::Gathers::some_bytes), unfolding(crate::specs::Gather::gather))]
+    pub fn spaced(&mut self, s: &[u8]) -> io::Result<()>
+        ensures { Gathers result self.old (spaced s.now) self.new }
+    {
+        if s.is_empty() {
+            return Ok(());
+        }
+        self.put(b' ')?;
+        self.bytes(s)
+    }
 
-// Three numbers, each at the right of its column.
-pub fn columns(
-    rt: &impl Print,
-    out: &mut [u8; ROOM],
-    n: usize,
-    a: usize,
-    b: usize,
-    c: usize,
-) -> io::Result<usize>
-    ensures ok { IfOk result (λ m. got out.new m ≡ gather (got out.old n) (column a ++ (column b ++ column c))) }
-    ensures err { OnErr result (Stopped (got out.old n) (column a ++ (column b ++ column c)) out.new) }
-{
-    let n = column(rt, out, n, a)?;
-    let n = column(rt, out, n, b)?;
-    column(rt, out, n, c)
+    // A number as sixteen digits in hex.
+    pub fn sixteen(&mut self, number: u64) -> io::Result<()>
+        ensures { Gathers result self.old (hex (to_be_bytes w64 number)) self.new }
+    {
+        self.bytes(&number.to_be_bytes())
+    }
+
+    // The line ends, and what is gathered is written.
+    #[tactic(auto, unfolding(crate::specs::Gather::gather, crate::specs::Gather::line_of))]
+    pub fn end(&mut self) -> io::Result<()>
+        ensures { Ends result self.old [] self.new }
+    {
+        self.put(b'\n')?;
+        self.to.write_all(&self.held[..self.count])?;
+        self.count = 0;
+        Ok(())
+    }
+
+    // A space, where one is wanted.
+    #[tactic(auto, unfolding(crate::specs::Gather::gather, crate::specs::Gather::pad))]
+    fn pad(&mut self, wanted: bool) -> io::Result<()>
+        ensures { Gathers result self.old (pad wanted) self.new }
+    {
+        if !wanted {
+            return Ok(());
+        }
+        self.put(b' ')
+    }
+
+    // A number at the right of a column of four.
+    #[tactic(auto, using(crate::proofs::Gathers::gathers_first, crate::proofs::Gathers::stopped_second, crate::proofs::Gathers::gathers_stop, crate::proofs::Gathers::gathers_then), unfolding(crate::specs::Gather::column))]
+    fn column(&mut self, number: usize) -> io::Result<()>
+        ensures { Gathers result self.old (column number) self.new }
+    {
+        self.pad(number < 1000)?;
+        self.pad(number < 100)?;
+        self.pad(number < 10)?;
+        self.decimal(number)
+    }
+
+    // Three numbers, each at the right of its column.
+    #[tactic(auto, using(crate::proofs::Gathers::gathers_first, crate::proofs::Gathers::stopped_second, crate::proofs::Gathers::gathers_stop, crate::proofs::Gathers::gathers_then))]
+    pub fn columns(&mut self, a: usize, b: usize, c: usize) -> io::Result<()>
+        ensures { Gathers result self.old (column a ++ (column b ++ column c)) self.new }
+    {
+        self.column(a)?;
+        self.column(b)?;
+        self.column(c)
+    }
 }

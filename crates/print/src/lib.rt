@@ -1,22 +1,22 @@
-// Text on standard output, for the programs. Where a write fails, its error is handed back, and what was to follow is not
-// written.
+// Text for the programs: on standard output and standard error as it comes, and gathered. Where a write fails, its error
+// is handed back, and what was to follow is not written.
 #![tactic(auto)]
 
-pub mod aside;
 pub mod gather;
 
 use std::io;
 
-pub fn text(rt: &impl Print, s: &[u8]) -> io::Result<()> {
-    rt.write_all(s)
+// Standard output is what the program was given, and standard error prints too.
+pub fn text(to: &impl Print, s: &[u8]) -> io::Result<()> {
+    to.write_all(s)
 }
 
-pub fn decimal(rt: &impl Print, n: usize) -> io::Result<()> {
-    rt.print(n)
+pub fn decimal(to: &impl Print, n: usize) -> io::Result<()> {
+    to.print(n)
 }
 
 // A number after a space.
-pub fn number(rt: &impl Print, n: usize) -> io::Result<()> {
-    text(rt, b" ")?;
-    decimal(rt, n)
+pub fn number(to: &impl Print, n: usize) -> io::Result<()> {
+    text(to, b" ")?;
+    decimal(to, n)
 }
