@@ -10,7 +10,7 @@ use registers::regs::Regs;
 use told::refusals::Refusal;
 
 // What a page holds, and the COUNT byte of a packet: the page offset at which its data start.
-#[derive(Clone, Copy)]
+#[derive(Clone, Copy, Debug, PartialEq, Eq)]
 pub enum Shape {
     Malformed,
     Short(u8),

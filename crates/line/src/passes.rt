@@ -11,7 +11,7 @@ use registers::regs::Regs;
 use table::network::{HEADER, row_end};
 
 // What reaches every row at once.
-#[derive(Clone, Copy)]
+#[derive(Clone, Copy, Debug, PartialEq, Eq)]
 pub(crate) enum Event {
     Recovery,
     // A message of the row named, which the others hear; an invitation, or not.
@@ -49,12 +49,10 @@ pub(crate) fn happen(net: &mut [u8], n: usize, event: Event)
     ensures { net.new ≡ each_row (λ k r. on_regs (happens event k) r) net.old n }
 {
     let mut a = HEADER;
-    let mut k = 0;
-    while k < n {
+    for k in 0..n {
         let e = row_end(net, a);
         happen_row(&mut net[a..e], k, event);
         a = e;
-        k += 1;
     }
 }
 
@@ -81,11 +79,9 @@ pub(crate) fn carry(net: &mut [u8], n: usize, h: usize, to: usize, broadcast: bo
     ensures { net.new ≡ each_row (carried_row h to broadcast packet) net.old n }
 {
     let mut a = HEADER;
-    let mut k = 0;
-    while k < n {
+    for k in 0..n {
         let e = row_end(net, a);
         carry_row(&mut net[a..e], k, h, to, broadcast, packet);
         a = e;
-        k += 1;
     }
 }

@@ -13,7 +13,7 @@ use table::network::{
 use told::refusals::Refusal;
 
 // What a step answers. A row is given by its number, from 0; `Unanswered` names the ID that was invited.
-#[derive(Clone, Copy)]
+#[derive(Clone, Copy, Debug, PartialEq, Eq)]
 pub enum Answer {
     Quiet,
     Recovered(usize),
@@ -37,7 +37,7 @@ impl Answer {
     }
 }
 
-#[tactic(auto, using(crate::proofs::Rooms::rooms, table::proofs::Online::Nodes::node_of_most), unfolding(crate::specs::Step::lost_turn, crate::specs::Traffic::happened))]
+#[tactic(auto, using(crate::proofs::Rooms::rooms), unfolding(crate::specs::Step::lost_turn, crate::specs::Traffic::happened))]
 fn lost(net: &mut [u8]) -> Answer
     requires { shape net.old ≡ true }
     ensures answer { said result ≡ (lost_turn net.old).answer }
@@ -47,9 +47,7 @@ fn lost(net: &mut [u8]) -> Answer
     let Some(top) = top_id(net, n) else {
         return Answer::Quiet;
     };
-    let Some(first) = node_of(net, top, n, n) else {
-        return Answer::Quiet;
-    };
+    let first = node_of(net, top, n, n).unwrap();
     happen(net, n, Event::Recovery);
     turn(net, PASS, first as u8);
     Answer::Recovered(first)
@@ -72,14 +70,14 @@ fn pass(net: &mut [u8], fault: usize) -> Answer
     let id = regs_at(net, h).nid;
     let taker = node_of(net, id, h, n);
     happen(net, n, Event::Message(h, true));
-    if let Some(t) = taker {
-        happen(net, n, Event::Taken(id, t));
-        turn(net, TAKEN, t as u8);
-        return Answer::Passed(t);
-    }
-    let g = regs_at(net, h).risen_nid();
-    put_regs(net, h, g);
-    Answer::Unanswered(id)
+    let Some(t) = taker else {
+        let g = regs_at(net, h).risen_nid();
+        put_regs(net, h, g);
+        return Answer::Unanswered(id);
+    };
+    happen(net, n, Event::Taken(id, t));
+    turn(net, TAKEN, t as u8);
+    Answer::Passed(t)
 }
 
 // A step of a network that SHAPE does not refuse. It serves whoever has tested SHAPE already.

@@ -1,7 +1,7 @@
 // Document 01, "One line step", TAKEN: the holder's packet.
 #![tactic(auto, using(crate::proofs::Rooms::rooms))]
 
-ghost use Rattle.std.specs.Prelude.{◌≡◌, true, ◌<◌};
+ghost use Rattle.std.specs.Prelude.{◌≡◌, true, ◌<◌, IfSome, unwrap_or};
 ghost use Rattle.table.specs.Network.{rows, shape};
 ghost use Rattle.line.specs.Traffic.{outcome_row, went_out, asked, broadcast_turn, packet_turn, enquiry_turn, try_turn, taken_turn};
 
@@ -11,7 +11,7 @@ use table::network::{node_of, put_regs, regs_at, row_at, row_end, row_start, row
 
 // What becomes of the holder's packet: where ACK or NAK answered its enquiry, the row that did; of a packet that went,
 // its shape; and of one whose ACK did not come, whether it was stored.
-#[derive(Clone, Copy)]
+#[derive(Clone, Copy, Debug, PartialEq, Eq)]
 pub enum Outcome {
     Nothing,
     Malformed,
@@ -28,13 +28,10 @@ impl Outcome {
         ensures { result ≡ outcome_row self }
     {
         match self {
-            Outcome::Nothing => 0,
-            Outcome::Malformed => 0,
-            Outcome::Broadcast(_) => 0,
-            Outcome::NoAnswer => 0,
-            Outcome::Nak(row) => row,
-            Outcome::Delivered(row, _) => row,
-            Outcome::Unacknowledged(row, _, _) => row,
+            Outcome::Nak(row)
+            | Outcome::Delivered(row, _)
+            | Outcome::Unacknowledged(row, _, _) => row,
+            Outcome::Nothing | Outcome::Malformed | Outcome::Broadcast(_) | Outcome::NoAnswer => 0,
         }
     }
 }
@@ -99,8 +96,8 @@ fn enquire(net: &mut [u8], h: usize, page: usize, fault: usize, to: Option<usize
     requires h_bound { h < rows net.old }
     requires page_bound { page < 4 }
     requires to_bound { IfSome to (λ t. t < rows net.old) }
-    ensures answer { result ≡ (enquiry_turn net.old h page fault (or_else (rows net.old) to)).answer }
-    ensures bytes { net.new ≡ (enquiry_turn net.old h page fault (or_else (rows net.old) to)).after }
+    ensures answer { result ≡ (enquiry_turn net.old h page fault (unwrap_or to (rows net.old))).answer }
+    ensures bytes { net.new ≡ (enquiry_turn net.old h page fault (unwrap_or to (rows net.old))).after }
 {
     let Some(t) = to else {
         asked(net, h, false);
