@@ -1,6 +1,6 @@
 -- Document 01, "One line step": what reaches the rows, storing, and TAKEN, the holder's packet.
 -- Assumes nothing.
-use Rattle.std.specs.Prelude.{Bool, true, false, not, ◌&&◌, ◌||◌, List, ℕ, eqb, ltb}
+use Rattle.std.specs.Prelude.{◌≡◌, ◌<◌, Bool, true, false, not, ◌&&◌, ◌||◌, List, ℕ, eqb, ltb}
 use Rattle.registers.specs.declared.regs.Regs.{Regs}
 use Rattle.card.specs.declared.packets.Packet.{Packet}
 use Rattle.line.specs.declared.passes.Event.{Event}
@@ -13,7 +13,7 @@ use Rattle.card.specs.Packets.{page_at, malformed, page_shape, destination, pack
 use Rattle.registers.specs.Events.{recovered, heard, answered, received, cancelled, sent, enquired, transmitting, receiving, takes_broadcasts, transmit_page, receive_page}
 use Rattle.card.specs.Packets.{storable}
 use Rattle.table.specs.Rows.{row_at, set_row, each_row}
-use Rattle.table.specs.Network.{rows, on_regs, regs_at, node_of}
+use Rattle.table.specs.Network.{rows, on_regs, regs_at, node_of, shape}
 
 -- the row that answered the enquiry; 0 where none did
 abbrev pub outcome_row : Outcome → ℕ
@@ -29,6 +29,11 @@ outcome_row (Unacknowledged r s stored) = r
 pub record Turn (A : Type 0) : Type 0 where
   pub answer : A
   pub after : List ℕ
+
+-- a network that SHAPE does not refuse, and one of its rows
+pub record HasRow (net : List ℕ) (h : ℕ) : Type 0 where
+  pub fits : shape net ≡ true
+  pub within : h < rows net
 
 -- ---- what a step does to the rows
 unfoldable pub on_row : List ℕ → ℕ → (Regs → Regs) → List ℕ

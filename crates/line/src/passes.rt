@@ -1,14 +1,13 @@
 // What reaches the rows in a line step (document 01): an event that reaches every row, other registers for one row,
 // and a packet for the rows that take it.
-ghost use Rattle.std.specs.Prelude.{◌≡◌, true, ◌≤◌, length};
+ghost use Rattle.std.specs.Prelude.{◌≡◌, ℕ, true, ◌≤◌, ◌<◌, length, is_none, unwrap_or};
 ghost use Rattle.card.specs.Row.{register_bytes, Whole, well_formed};
-ghost use Rattle.table.specs.Rows.{row_start, each_row};
-ghost use Rattle.table.specs.Network.{on_regs, rows_fit};
-ghost use Rattle.line.specs.Traffic.{happens, carried_row};
+ghost use Rattle.table.specs.Network.{rows, on_regs, shape};
+ghost use Rattle.line.specs.Traffic.{happens, happened, takes, carried_row, carried};
 
 use card::packets::Packet;
 use registers::regs::Regs;
-use table::network::{HEADER, row_end};
+use table::network::{HEADER, row_end, rows};
 
 // What reaches every row at once.
 #[derive(Clone, Copy, Debug, PartialEq, Eq)]
@@ -43,45 +42,55 @@ fn happen_row(row: &mut [u8], k: usize, event: Event)
     card::row::store(row, happens(g, k, event));
 }
 
-// The event reaches each of the first n rows.
-pub(crate) fn happen(net: &mut [u8], n: usize, event: Event)
-    requires { row_start net.old n ≤ length net.old }
-    ensures { net.new ≡ each_row (λ k r. on_regs (happens event k) r) net.old n }
+// The event reaches each row.
+#[tactic(auto, using(crate::proofs::Rooms::rooms))]
+pub(crate) fn happen(net: &mut [u8], event: Event)
+    requires { shape net.old ≡ true }
+    ensures bytes { net.new ≡ happened net.old event }
+    ensures rows { (shape net.new ≡ true) × (rows net.new ≡ rows net.old) }
 {
     let mut a = HEADER;
-    for k in 0..n {
+    for k in 0..rows(net) {
         let e = row_end(net, a);
         happen_row(&mut net[a..e], k, event);
         a = e;
     }
 }
 
+// Row k takes a packet that row h sends to it. A broadcast is sent to no one row, and each row but h that wants it takes it.
+fn takes(g: Regs, k: usize, h: usize, to: Option<usize>) -> bool
+    ensures { (n : ℕ) → k < n → result ≡ takes h (unwrap_or to n) (is_none to) k g }
+{
+    match to {
+        Some(t) => k == t,
+        None => (k != h) & g.takes_broadcasts(),
+    }
+}
+
 // A packet that row k takes is stored in its receive page, where that can be.
-fn carry_row(row: &mut [u8], k: usize, h: usize, to: usize, broadcast: bool, packet: Packet)
+fn carry_row(row: &mut [u8], k: usize, h: usize, to: Option<usize>, packet: Packet)
     requires whole { Whole row.old }
     requires row_value { well_formed row.old ≡ true }
-    ensures { row.new ≡ carried_row h to broadcast packet k row.old }
+    ensures { (n : ℕ) → k < n → row.new ≡ carried_row h (unwrap_or to n) (is_none to) packet k row.old }
 {
     let g = card::row::load(row);
-    let takes = (k == to) | broadcast & (k != h) & g.takes_broadcasts();
-    let shape = packet.shape;
-    if takes & g.receiving() & shape.storable(g) {
+    if takes(g, k, h, to) & g.receiving() & packet.shape.storable(g) {
         card::packets::store_packet(row, g.receive_page(), packet);
         let g = card::row::load(row).received();
         card::row::store(row, g);
     }
 }
 
-// The packet reaches row `to`, and of a broadcast each row but h that wants it.
-pub(crate) fn carry(net: &mut [u8], n: usize, h: usize, to: usize, broadcast: bool, packet: Packet)
-    requires n_in_bounds { row_start net.old n ≤ length net.old }
-    requires n_value { rows_fit net.old n ≡ true }
-    ensures { net.new ≡ each_row (carried_row h to broadcast packet) net.old n }
+// The packet of row h reaches each row that takes it.
+#[tactic(auto, using(crate::proofs::Rooms::rooms))]
+pub(crate) fn carry(net: &mut [u8], h: usize, to: Option<usize>, packet: Packet)
+    requires { shape net.old ≡ true }
+    ensures { net.new ≡ carried net.old h (unwrap_or to (rows net.old)) (is_none to) packet }
 {
     let mut a = HEADER;
-    for k in 0..n {
+    for k in 0..rows(net) {
         let e = row_end(net, a);
-        carry_row(&mut net[a..e], k, h, to, broadcast, packet);
+        carry_row(&mut net[a..e], k, h, to, packet);
         a = e;
     }
 }

@@ -1,8 +1,9 @@
 // Document 01, "One line step".
 ghost use Rattle.std.specs.Prelude.{◌≡◌, true, ◌<◌};
-ghost use Rattle.table.specs.Network.{rows, holder, shape};
+ghost use Rattle.table.specs.Network.{holder, shape};
 ghost use Rattle.told.specs.Refusals.{number};
 ghost use Rattle.line.specs.Answers.{said, answered};
+ghost use Rattle.line.specs.Traffic.{HasRow};
 ghost use Rattle.line.specs.Step.{answer_value, lost_turn, pass_turn, step_turn, step_number, step};
 
 use crate::passes::{Event, happen};
@@ -37,7 +38,7 @@ impl Answer {
     }
 }
 
-#[tactic(auto, using(crate::proofs::Rooms::rooms), unfolding(crate::specs::Step::lost_turn, crate::specs::Traffic::happened))]
+#[tactic(auto, using(crate::proofs::Rooms::rooms, crate::proofs::Steps::Holders::highest_found), unfolding(crate::specs::Step::lost_turn))]
 fn lost(net: &mut [u8]) -> Answer
     requires { shape net.old ≡ true }
     ensures answer { said result ≡ (lost_turn net.old).answer }
@@ -48,34 +49,32 @@ fn lost(net: &mut [u8]) -> Answer
         return Answer::Quiet;
     };
     let first = node_of(net, top, n, n).unwrap();
-    happen(net, n, Event::Recovery);
+    happen(net, Event::Recovery);
     turn(net, PASS, first as u8);
     Answer::Recovered(first)
 }
 
-#[tactic(auto, using(crate::proofs::Rooms::rooms, crate::proofs::Change::Made::rows_happened, crate::proofs::Turn::Sends::is_happened), unfolding(crate::specs::Step::pass_turn, crate::specs::Traffic::on_row))]
+#[tactic(auto, using(crate::proofs::Rooms::rooms), unfolding(crate::specs::Step::pass_turn, crate::specs::Traffic::on_row))]
 fn pass(net: &mut [u8], fault: usize) -> Answer
-    requires net_value { shape net.old ≡ true }
-    requires net_bound { holder net.old < rows net.old }
+    requires { HasRow net.old (holder net.old) }
     ensures answer { said result ≡ (pass_turn net.old fault).answer }
     ensures bytes { net.new ≡ (pass_turn net.old fault).after }
 {
-    let n = rows(net);
     let h = holder(net);
     if fault == 3 {
-        happen(net, n, Event::Message(h, false));
+        happen(net, Event::Message(h, false));
         turn(net, LOST, 0);
         return Answer::TokenLost;
     }
     let id = regs_at(net, h).nid;
-    let taker = node_of(net, id, h, n);
-    happen(net, n, Event::Message(h, true));
+    let taker = node_of(net, id, h, rows(net));
+    happen(net, Event::Message(h, true));
     let Some(t) = taker else {
         let g = regs_at(net, h).risen_nid();
         put_regs(net, h, g);
         return Answer::Unanswered(id);
     };
-    happen(net, n, Event::Taken(id, t));
+    happen(net, Event::Taken(id, t));
     turn(net, TAKEN, t as u8);
     Answer::Passed(t)
 }

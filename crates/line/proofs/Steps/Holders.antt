@@ -9,7 +9,10 @@ use native.Mathlib.Omega.{arith}
 use lib.Dec.{ltb}
 use borrow.Author.Tests.{ltb-true, ltb-false}
 use Rattle.bits.proofs.Words.Bools.{cases}
-use Rattle.table.specs.Network.{rows, holder, top_id}
+use Rattle.std.proofs.Common.{Option, Some}
+use Rattle.std.specs.Option.{IsSome}
+use Rattle.table.specs.Folds.{below, not_zero}
+use Rattle.table.specs.Network.{rows, holder, top_id, node_of}
 use Rattle.line.specs.Step.{highest, invited, taker}
 use Rattle.table.proofs.Online.Nodes.{node_online, node_of_found, node_of_most, node_of_fails, top_id_nobody}
 use Rattle.table.proofs.Shaped.Shapes.{OnLineRow}
@@ -25,6 +28,13 @@ highest_held net ne =
     (λ (t : ltb (highest net) n ≡ false). absurd (ne (top_id_nobody net n top refl
     (λ j l. node_of_fails net top n n (omega (arith, ltb-false (highest net) n t, node_of_most net top n n)) j l (λ e. omega arith)))))
     (cases (ltb (highest net) n))
+
+-- so that a search for it finds a row
+pub highest_found : (net : List ℕ) (n : ℕ) → n ≡ rows net → (top : ℕ) → Some top ≡ not_zero (top_id net n) → (r : Option ℕ) → r ≡ below n (node_of net top n n) → IsSome r
+highest_found net n en top p r e =
+    let z : (top_id net (rows net) ≡ 0) → ⊥ = λ z. grind arith in
+    let h = (highest_held net z).0 in
+    grind arith
 
 -- the row that takes the invitation is on line
 pub taker_held : (net : List ℕ) → taker net < rows net → OnLineRow net (taker net)

@@ -19,22 +19,13 @@ use Rattle.card.proofs.Pages.Packets.{packet_full, packet_count}
 use Rattle.card.proofs.Rows.Rams.{packet_bytes}
 use Rattle.table.specs.Rows.{row_start, row_at, set_row, each_row}
 use Rattle.table.specs.Network.{Bytes, rows, on_regs, regs_at, rows_fit, shape}
-use Rattle.line.specs.Traffic.{on_row, happens, happened, damaged, carried_row, carried, stamped_net, went_out}
+use Rattle.line.specs.Traffic.{HasRow, on_row, happens, happened, damaged, carried_row, carried, stamped_net, went_out}
 use Rattle.table.proofs.Rows.Walks.{walked_lies, row_done_lem}
 use Rattle.table.proofs.Shaped.Shapes.{shape_within, shape_fits, shape_row_whole}
 use Rattle.table.proofs.Shaped.Bounds.{Bounds, new_bounds}
 use Rattle.table.proofs.Shaped.Alike.{Rams, bytes_rams, Alike, alike_then, alike_moved}
 use Rattle.line.proofs.Change.Changes.{Reaches, Stamps, Carries, WholePacket}
 use Rattle.line.proofs.Change.Made.{moved_done, shape_done, rows_done, shape_happened, rows_happened}
-
--- the event that reached each row
-pub is_happened : (net : List ℕ) (n : ℕ) → n ≡ rows net → (e : Event) (x : List ℕ) → x ≡ each_row (λ k r. on_regs (happens e k) r) net n → x ≡ happened net e
-unfolding happened
-is_happened net n en e x ex = rw en at ex
-
--- and the bounds of what it left
-pub happened_bounds : (net : List ℕ) → shape net ≡ true → (n : ℕ) → n ≡ rows net → (e : Event) (x : List ℕ) → x ≡ each_row (λ k r. on_regs (happens e k) r) net n → Bounds net x
-happened_bounds net s n en e x ex = rw (is_happened net n en e x ex) (new_bounds net (happened net e) (shape_happened net e s) (rows_happened net e s))
 
 -- a packet that is read out of a page of row h is whole
 pub whole_packet : (net : List ℕ) → shape net ≡ true → Rams net → (h : ℕ) → h < rows net → (p : ℕ) → p < 4 → WholePacket (packet_at (row_at net h) p)
@@ -49,41 +40,14 @@ module _ (net : List ℕ) (s : shape net ≡ true) (h p : ℕ) (l : h < rows net
       → m ≡ stamped (mid_of a (e - a) net) (page_at (mid_of a (e - a) net) p) → put_mid a (e - a) net m ≡ stamped_net net h p
   stamped_is a ea e ee m d = row_done_lem net h a e (walked_lies net h a ea (shape_within net s h l) e ee) (λ r. stamped r (page_at r p)) m d
 
-  shape_stamped : shape (stamped_net net h p) ≡ true
+  pub shape_stamped : shape (stamped_net net h p) ≡ true
   shape_stamped = shape_done net h s l (Stamps p) tt tt
 
-  rows_stamped : rows (stamped_net net h p) ≡ rows net
+  pub rows_stamped : rows (stamped_net net h p) ≡ rows net
   rows_stamped = rows_done net h s l (Stamps p) tt tt
-
-  pub stamped_bounds : (x : List ℕ) → x ≡ stamped_net net h p → Bounds net x
-  stamped_bounds x e = rw e (new_bounds net (stamped_net net h p) shape_stamped rows_stamped)
 
   abbrev went : List ℕ
   went = happened (stamped_net net h p) (Message h false)
-
-  shape_went : shape went ≡ true
-  shape_went = shape_happened (stamped_net net h p) (Message h false) shape_stamped
-
-  rows_went : rows went ≡ rows net
-  rows_went = rows_happened (stamped_net net h p) (Message h false) shape_stamped ∙ rows_stamped
-
-  module _ (n : ℕ) (en : n ≡ rows net) (x y : List ℕ) (ex : x ≡ stamped_net net h p) (ey : y ≡ each_row (λ k r. on_regs (happens (Message h false) k) r) x n) where
-    is_went : y ≡ went
-    is_went = is_happened (stamped_net net h p) n (en ∙ sym rows_stamped) (Message h false) y (ey ∙ ap (λ (z : List ℕ). each_row (λ k r. on_regs (happens (Message h false) k) r) z n) ex)
-
-    pub went_fits : (row_start y n ≤ length y) × (rows_fit y n ≡ true)
-    went_fits = rw is_went ((new_bounds net went shape_went rows_went).all n en, rw (en ∙ sym rows_went) (shape_fits went shape_went))
-
-    pub went_damaged : (fault to : ℕ) (b : Bool) → fault ≡ 1 → y ≡ went_out net h p fault to b
-    unfolding went_out
-    went_damaged fault to b f = rw (eq-eqb _ _ f) is_went
-
-    pub went_whole : (fault to : ℕ) (b : Bool) → (fault ≡ 1 → ⊥) → (r : List ℕ) → r ≡ row_at x h → (k : Packet) → k ≡ packet_at r p
-        → (z : List ℕ) → z ≡ each_row (carried_row h to b k) y n → z ≡ went_out net h p fault to b
-    unfolding went_out carried
-    went_whole fault to b f r er k ek z ez =
-        let e : n ≡ rows went = en ∙ sym rows_went in
-        rw (ne_eqb _ _ f) (rw (is_went, e, ek, er, ex) at ez)
 
   -- the network that it leaves: the rows of `net`, still well formed
   module _ (b : Rams net) (q : p < 4) where
@@ -104,10 +68,10 @@ module _ (net : List ℕ) (s : shape net ≡ true) (h p : ℕ) (l : h < rows net
         pick_of (Alike net) (damaged fault) (λ _. c)
         (λ _. alike_then c (alike_moved went c.fits c.rams _ (moved_done went h c.fits (omega (arith, c.count)) (Carries to b (packet_at (row_at (stamped_net net h p) h) p)) whole tt)))
 
-pub went_bounds : (net : List ℕ) → shape net ≡ true → Bytes net → (h p : ℕ) → h < rows net → p < 4 → (fault to : ℕ) (b : Bool) (x : List ℕ) → x ≡ went_out net h p fault to b → Bounds net x
-went_bounds net s y h p l q fault to b x e =
-    let a = out_alike net s h p l (bytes_rams net s y) q fault to b in
-    rw e (new_bounds net (went_out net h p fault to b) a.fits a.count)
+pub went_row : (net : List ℕ) → Bytes net → (h : ℕ) → HasRow net h → (p : ℕ) → p < 4 → (fault to : ℕ) (b : Bool) (x : List ℕ) → x ≡ went_out net h p fault to b → HasRow x h
+went_row net y h has p q fault to b x e =
+    let a = out_alike net has.fits h p has.within (bytes_rams net has.fits y) q fault to b in
+    rw e (record { fits = a.fits; within = omega (arith, a.count, has.within) })
 
 -- row k of a network that is w is given other registers
 pub put_after : (w x : List ℕ) → x ≡ w → (k : ℕ) (r : Regs) → r ≡ regs_at x k → (f : Regs → Regs) (g : Regs) → g ≡ f r

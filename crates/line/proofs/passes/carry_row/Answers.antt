@@ -1,4 +1,5 @@
-use Rattle.std.proofs.Common.{arith}
+use Rattle.std.proofs.Common.{◌&&◌, sym, ◌∙◌, arith}
+use Rattle.bits.proofs.Words.Bools.{and_left, and_right}
 use Rattle.card.proofs.Rows.Sizes.{whole_registers}
 use Rattle.line.proofs.Change.Carry.{room}
 use Rattle.line.proofs.passes.carry_row.Goals as goal
@@ -8,9 +9,10 @@ load-g-requires c = whole_registers _ c.requires.whole
 
 pub store_packet-requires : goal.store_packet-requires
 store_packet-requires c =
-    let a = c.args in
-    let e = room _ c.requires.whole c.requires.row_value a.h a.to a.broadcast a.packet a.k _ c.load-g.ensures _ _ _ c.takes_broadcasts.ensures c.receiving.ensures c.storable.ensures
-    c.if-takes-receiving.true _ c.receive_page.ensures in
+    let test = c.if-takes-receiving.true in
+    let a = sym c.receiving.ensures ∙ and_right c.takes.result c.receiving.result (and_left (c.takes.result && c.receiving.result) c.storable.result test) in
+    let b = sym c.storable.ensures ∙ and_right (c.takes.result && c.receiving.result) c.storable.result test in
+    let e = room _ c.requires.whole c.requires.row_value _ c.load-g.ensures a _ b _ c.receive_page.ensures in
     record { whole = c.requires.whole; page_bound = e.0; shape_in_bounds = e.1 }
 
 -- the row is as long as it was

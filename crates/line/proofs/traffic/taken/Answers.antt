@@ -1,19 +1,21 @@
-use Rattle.line.proofs.Turn.Tries.{cancels_ready, taken_nothing, taken_tried}
+use Rattle.line.proofs.Turn.Tries.{cancels_row, taken_nothing, taken_tried}
+use Rattle.registers.proofs.Values.Ends.{transmit_page_small}
 use Rattle.line.proofs.traffic.taken.Goals as goal
 
+pub invariant_of-attempt : goal.invariant_of-attempt
+invariant_of-attempt c = record { page_bound = rw c.transmit_page-page.ensures (transmit_page_small _) }
+
 pub attempt-requires : goal.attempt-requires
-attempt-requires c =
-    let e = cancels_ready _ c.requires.net_value _ c.requires.h_bound c.args.fault _ c.regs_at.ensures _ c.cancelled-g.ensures _ c.put_regs.ensures _ c.transmit_page.ensures in
-    record { net_value = e.0; h_bound = e.1.0; page_bound = e.1.1 }
+attempt-requires c = cancels_row _ _ c.requires c.args.fault _ c.regs_at.ensures _ c.cancelled-g.ensures _ c.put_regs.ensures
 
 pub returns-then-transmitting : goal.returns-then-transmitting
 returns-then-transmitting c =
-    let e = taken_tried _ c.requires.net_value _ c.requires.h_bound c.args.fault _ c.regs_at.ensures _ c.cancelled-g.ensures _ c.put_regs.ensures
-    _ c.transmitting.ensures c.if-transmitting.true _ c.transmit_page.ensures _ _ (c.attempt.ensures.answer, c.attempt.ensures.bytes) in
+    let e = taken_tried _ _ c.requires c.args.fault _ c.regs_at.ensures _ c.cancelled-g.ensures _ c.put_regs.ensures
+    _ c.transmitting.ensures c.if-transmitting.true _ c.transmit_page-page.ensures _ _ (c.attempt.ensures.answer, c.attempt.ensures.bytes) in
     record { answer = e.0; bytes = e.1 }
 
 pub returns : goal.returns
 returns c =
-    let e = taken_nothing _ c.requires.net_value _ c.requires.h_bound c.args.fault _ c.regs_at.ensures _ c.cancelled-g.ensures _ c.put_regs.ensures
+    let e = taken_nothing _ _ c.requires c.args.fault _ c.regs_at.ensures _ c.cancelled-g.ensures _ c.put_regs.ensures
     _ c.transmitting.ensures c.if-transmitting.false in
     record { answer = e.0; bytes = e.1 }
