@@ -7,10 +7,12 @@ use Prim.Native.Nat.{ℕ, zero, suc, ◌+◌, ◌≤◌, ◌<◌}
 use native.Mathlib.Nat.{not-suc-le-zero, le_of_suc-le-suc, eq-or-lt_of_le}
 use native.Mathlib.Numerals.{add-one}
 use native.Mathlib.Omega.{arith}
-use borrow.Author.Tests.{ltb-true, ltb-false, le-ltb}
+use borrow.Author.Tests.{ltb-true, ltb-false, lt-ltb, le-ltb}
+use Rattle.std.proofs.Common.{Some, None}
+use Rattle.std.specs.Option.{is_some}
 use lib.Dec.{ltb}
 use Rattle.bits.proofs.Words.Bools.{cases, and_left, and_right, or_true, or_left, or_right, pick_of}
-use Rattle.table.specs.Folds.{every, some, seek}
+use Rattle.table.specs.Folds.{every, some, seek, below}
 
 pub clash : {b : Bool} → b ≡ true → b ≡ false → ⊥
 clash p q = let z : ◌≡◌ {A = ℕ} 0 1 = cc in omega arith
@@ -155,3 +157,13 @@ pub some_same : (f g : ℕ → Bool) (n : ℕ) → ((j : ℕ) → j < n → f j 
 unfolding some
 some_same f g zero e = refl
 some_same f g (suc n) e = rw (some_same f g n (λ j l. e j (omega arith)), e n (omega arith))
+
+-- what a search tells that found k, and one that found nothing
+pub below_here : (n k f : ℕ) → k < n → k ≡ f → Some k ≡ below n f
+below_here n k f l e = rw (← e, lt-ltb k n l)
+
+pub below_none : (n f : ℕ) → f ≡ n → None ≡ below n f
+below_none n f e = rw (e, le-ltb n n (omega arith))
+
+pub below_some : (n f : ℕ) → is_some (below n f) ≡ ltb f n
+below_some n f = ⊎_elim (λ t. rw t) (λ t. rw t) (cases (ltb f n))

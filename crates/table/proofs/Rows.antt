@@ -4,5 +4,6 @@ pub mod Starts
 pub mod WithRows
 pub mod Passes
 pub mod Walks
+pub mod Walk
 pub mod Networks
 pub mod Headers

@@ -3,3 +3,4 @@ pub mod Rows
 pub mod Network
 pub mod Calls
 pub mod Shuffle
+pub mod Walk

@@ -4,3 +4,4 @@
 
 pub mod calls;
 pub mod network;
+pub mod walk;

@@ -6,6 +6,7 @@ ghost use Rattle.table.specs.Folds.{below, not_zero};
 ghost use Rattle.table.specs.Rows.{header_bytes, row_start, row_at, set_row, rows_end};
 ghost use Rattle.table.specs.Network.{rows, phase, holder, turned, regs_at, node_of, top_id, header_fits, rows_fit, ids_differ, holder_fits, shape};
 
+use crate::walk::Rows;
 use registers::regs::Regs;
 
 pub const HEADER: usize = 16;
@@ -56,10 +57,8 @@ pub fn row_start(net: &[u8], k: usize) -> usize
     ensures { result ≡ row_start net.now k }
 {
     let mut a = HEADER;
-    let mut i = 0;
-    while i < k {
+    for _ in 0..k {
         a = row_end(net, a);
-        i += 1;
     }
     a
 }
@@ -125,14 +124,11 @@ pub fn node_of(net: &[u8], id: u8, except: usize, n: usize) -> Option<usize>
     requires { row_start net.now n ≤ length net.now }
     ensures { result ≡ below n (node_of net.now id except n) }
 {
-    let mut a = HEADER;
-    for k in 0..n {
-        let row = row_from(net, a);
+    for (k, row) in Rows::first(net, n).enumerate() {
         let g = card::row::load(row);
         if g.on_line() & (g.id == id) & (k != except) {
             return Some(k);
         }
-        a += row.len();
     }
     None
 }
@@ -143,12 +139,9 @@ pub fn top_id(net: &[u8], n: usize) -> Option<u8>
     ensures { result ≡ not_zero (top_id net.now n) }
 {
     let mut top = 0;
-    let mut a = HEADER;
-    for k in 0..n {
-        let row = row_from(net, a);
+    for row in Rows::first(net, n) {
         let g = card::row::load(row);
         top = bits::choice::choose(g.on_line() & (top < g.id), g.id, top);
-        a += row.len();
     }
     if top == 0 { None } else { Some(top) }
 }
@@ -160,14 +153,12 @@ fn rows_end(net: &[u8], n: usize) -> bool
     ensures { result ≡ rows_end net.now n }
 {
     let mut a = HEADER;
-    let mut k = 0;
-    while k < n {
+    for _ in 0..n {
         let size = card::row::size(&net[a..net.len()]);
         if net.len() - a < size {
             return false;
         }
         a += size;
-        k += 1;
     }
     net.len() == a
 }
@@ -192,17 +183,7 @@ fn rows_fit(net: &[u8], n: usize) -> bool
     requires { row_start net.now n ≤ length net.now }
     ensures { result ≡ rows_fit net.now n }
 {
-    let mut a = HEADER;
-    let mut k = 0;
-    while k < n {
-        let row = row_from(net, a);
-        if !card::row::well_formed(row) {
-            return false;
-        }
-        a += row.len();
-        k += 1;
-    }
-    true
+    Rows::first(net, n).all(|row| card::row::well_formed(row))
 }
 
 // The IDs of the rows on line differ pairwise: none has the ID of an on-line row before it. The rows are compared in place, since
@@ -212,16 +193,11 @@ fn ids_differ(net: &[u8], n: usize) -> bool
     requires { row_start net.now n ≤ length net.now }
     ensures { result ≡ ids_differ net.now n }
 {
-    let mut a = HEADER;
-    let mut k = 0;
-    while k < n {
-        let row = row_from(net, a);
+    for (k, row) in Rows::first(net, n).enumerate() {
         let g = card::row::load(row);
         if g.on_line() && node_of(net, g.id, k, k).is_some() {
             return false;
         }
-        a += row.len();
-        k += 1;
     }
     true
 }

@@ -13,10 +13,12 @@ use Rattle.bits.specs.Words.{pick}
 use Rattle.registers.specs.Fit.{on_line}
 use Rattle.bits.proofs.Words.Bools.{and_left, and_right, and_true, pick_of}
 use Rattle.registers.proofs.Values.SameCard.{on_line_id}
-use Rattle.table.specs.Folds.{some, seek}
+use Rattle.std.proofs.Common.{Option}
+use Rattle.std.specs.Option.{is_some}
+use Rattle.table.specs.Folds.{some, seek, below}
 use Rattle.table.specs.Rows.{row_at}
 use Rattle.table.specs.Network.{regs_at, on_line_at, is_node, node_of, top_id}
-use Rattle.table.proofs.Folds.{clash, seek_at_most, seek_found, seek_least, seek_same, some_found, some_missed}
+use Rattle.table.proofs.Folds.{clash, seek_at_most, seek_found, seek_least, seek_same, some_found, some_missed, below_some}
 
 -- ---- the highest ID
 pub top_id_none : (net : List ℕ) → top_id net 0 ≡ 0
@@ -93,19 +95,22 @@ module _ (net : List ℕ) (k : ℕ) (g : Regs) (b : Bool) (p : g ≡ regs_at net
   pub free_off : b ≡ false → free net k ≡ true
   free_off e = rw (sym (online_is net k g b p q) ∙ e)
 
-  module _ (e : b ≡ true) (j : ℕ) (s : j ≡ node_of net g.id k k) where
+  module _ (e : b ≡ true) (o : Option ℕ) (s : o ≡ below k (node_of net g.id k k)) where
     on : on_line_at net k ≡ true
     on = sym (online_is net k g b p q) ∙ e
 
-    sought : j ≡ seek (is_node net (regs_at net k).id) k
+    sought : node_of net g.id k k ≡ seek (is_node net (regs_at net k).id) k
     unfolding node_of
-    sought = s ∙ seek_same (other net g.id k) (is_node net (regs_at net k).id) k (λ m l. rw (ne_eqb m k (λ x. omega arith), and_true, p))
+    sought = seek_same (other net g.id k) (is_node net (regs_at net k).id) k (λ m l. rw (ne_eqb m k (λ x. omega arith), and_true, p))
 
-    pub free_not : ltb j k ≡ true → free net k ≡ false
-    free_not l = rw (on, some_found _ k j sought (ltb-true j k l))
+    told : is_some o ≡ ltb (node_of net g.id k k) k
+    told = rw s (below_some k (node_of net g.id k k))
 
-    pub free_is : ltb j k ≡ false → free net k ≡ true
-    free_is l = rw (on, some_missed _ k j sought (ltb-false j k l))
+    pub free_not : is_some o ≡ true → free net k ≡ false
+    free_not l = rw (on, some_found _ k _ sought (ltb-true _ k (sym told ∙ l)))
+
+    pub free_is : is_some o ≡ false → free net k ≡ true
+    free_is l = rw (on, some_missed _ k _ sought (ltb-false _ k (sym told ∙ l)))
 
 -- where no row is on line with the highest ID, nobody is on line
 pub top_id_nobody : (net : List ℕ) (n i : ℕ) → top_id net n ≡ i → ((j : ℕ) → j < n → is_node net i j ≡ false) → i ≡ 0

@@ -1,33 +1,41 @@
-use Rattle.std.proofs.Common.{sym, ap, ◌∙◌}
-use borrow.Author.Tests.{lt-ltb, le-ltb}
+use Rattle.std.proofs.Common.{sym, ap, ◌∙◌, arith, rules, inl, refl}
 use Rattle.card.specs.Row.{regs_of}
 use Rattle.table.specs.Network.{ids_differ}
-use Rattle.table.proofs.Folds.{passed_none, passed_fails, passed_more}
-use Rattle.table.proofs.Rows.Starts.{start_zero}
-use Rattle.table.proofs.Rows.Walks.{walk_room, walk_row, walk_on}
+use Rattle.table.proofs.Folds.{passed_none, passed_fails, passed_more, passed_all}
+use Rattle.table.proofs.Rows.Starts.{start_mono}
+use Rattle.table.proofs.Rows.Walk.{before_first, before_fits, before_end, before_less, before_next, before_is}
 use Rattle.table.proofs.Online.Nodes.{free, free_off, free_not, free_is}
 use Rattle.table.proofs.network.ids_differ.Goals as goal
-use Rattle.table.proofs.network.ids_differ.Goals.{else-on_line-via-then-on_line+else-node_of-k, else-on_line-via-else-on_line}
+use Rattle.table.proofs.network.ids_differ.Goals.{else-on_line-via-then-on_line+else-is_some, else-on_line-via-else-on_line}
 
 pub loop-k-init : goal.loop-k-init
-loop-k-init c = (passed_none _ _, sym (start_zero _))
+loop-k-init c =
+    rw (c.into_iter-k-iterator.ensures.into_iter_gives, c.enumerate-k-items.ensures.count, c.enumerate-k-items.ensures.source, c.first.ensures)
+    (let p = before_first c.args.net.now c.args.n 0 _ refl refl in ((tt, tt, inl (before_fits _ _ _ _ p c.ranges.n.fits)), tt, p, passed_none _ _))
 
-pub row_from-row-requires : goal.row_from-row-requires
-row_from-row-requires c = walk_room _ _ c.requires _ _ c.loop-k.invariant.1 c.loop-k-test.true
+pub node_of-requires : goal.node_of-requires
+node_of-requires c =
+    let s = c.in-Some.ensures.steps in
+    let l = before_less _ _ _ _ c.loop-k.invariant.2 _ c.in-Some.row s.0 in omega (arith, c.requires, s.1, start_mono c.args.net.now c.in-Some.k c.args.n (omega (arith, l, s.1)))
 
-pub returns-then-node_of-k : goal.returns-then-node_of-k
+pub returns-then-is_some : goal.returns-then-is_some
 unfolding ids_differ
-returns-then-node_of-k c =
-    let r = walk_row _ _ c.requires c.loop-k.k _ c.loop-k.invariant.1 c.loop-k-test.true _ c.row_from-row.ensures.bytes in
-    passed_fails (free _) _ _ c.loop-k-test.true
-    (free_not _ _ _ _ (c.load-g.ensures ∙ ap regs_of r) c.on_line.ensures c.if-on_line.true _ c.node_of.ensures (lt-ltb _ _ c.if-node_of-k.true))
+returns-then-is_some c =
+    let p = c.loop-k.invariant.2 in
+    let s = c.in-Some.ensures.steps in
+    let l = before_less _ _ _ _ p _ c.in-Some.row s.0 in
+    passed_fails (free _) _ _ l (free_not _ _ _ _ (c.load-g.ensures ∙ ap regs_of (before_is _ _ _ _ p _ c.in-Some.row s.0)) c.on_line.ensures c.if-on_line.true _ (rw s.1 at c.node_of.ensures) (sym c.is_some.ensures ∙ c.if-is_some.true))
 
 pub loop-k-preserved : goal.loop-k-preserved
 loop-k-preserved c =
-    let e = c.load-g.ensures ∙ ap regs_of (walk_row _ _ c.requires c.loop-k.k _ c.loop-k.invariant.1 c.loop-k-test.true _ c.row_from-row.ensures.bytes) in (
-      passed_more (free _) _ _ c.loop-k-test.true c.loop-k.invariant.0 (elim c.else-on_line.branch [
-        | else-on_line-via-then-on_line+else-node_of-k w ↦ free_is _ _ _ _ e c.on_line.ensures w.if-on_line.true _ w.node_of.ensures (le-ltb _ _ w.if-node_of-k.false)
+    let p = c.loop-k.invariant.2 in
+    let s = c.in-Some.ensures.steps in
+    let l = before_less _ _ _ _ p _ c.in-Some.row s.0 in
+    let q = before_next _ _ _ _ p _ c.in-Some.row s.0 _ s.2 in
+    let e = c.load-g.ensures ∙ ap regs_of (before_is _ _ _ _ p _ c.in-Some.row s.0) in (
+      (tt, tt, inl (before_fits _ _ _ _ q c.ranges.n.fits)), tt, q,
+      rw s.2 (passed_more (free _) _ _ l c.loop-k.invariant.3 (elim c.else-on_line.branch [
+        | else-on_line-via-then-on_line+else-is_some w ↦ free_is _ _ _ _ e c.on_line.ensures w.if-on_line.true _ (rw s.1 at w.node_of.ensures) (sym w.is_some.ensures ∙ w.if-is_some.false)
         | else-on_line-via-else-on_line w ↦ free_off _ _ _ _ e c.on_line.ensures w.if-on_line.false
-      ]),
-      walk_on _ c.args.n c.requires _ _ c.loop-k.invariant.1 c.loop-k-test.true _ c.row_from-row.ensures.bytes,
+      ])),
     )

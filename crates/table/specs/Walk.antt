@@ -1,0 +1,23 @@
+-- A walk over the rows of a network, one after the other.
+-- Assumes nothing.
+use Rattle.std.specs.Prelude.{◌≡◌, Option, List, ℕ, ◌+◌, ◌≤◌, ◌<◌, length, MatchOption}
+use Rattle.std.specs.Borrow.{Bor}
+use Rattle.card.specs.Row.{register_bytes, Whole}
+use Rattle.table.specs.Rows.{row_at}
+
+-- the first `count` rows of the network are gone over, and `passed` of them are behind
+pub record Walk : Type 0 where
+  pub net : List ℕ
+  pub passed : ℕ
+  pub count : ℕ
+
+-- where it begins
+abbrev pub walk : List ℕ → ℕ → Walk
+walk net n = record { net = net; passed = 0; count = n }
+
+-- one turn: the row whose number is `passed`; or none is left
+abbrev pub next_row : Walk → Option (Bor (List ℕ)) → Walk → Type 0
+next_row s r t =
+    MatchOption r ((s.passed ≡ s.count) × (t ≡ s))
+    (λ row. (s.passed < s.count) × (t ≡ record { net = s.net; passed = s.passed + 1; count = s.count }) × (row.now ≡ row_at s.net s.passed) × (Whole row.now)
+    × (register_bytes ≤ length row.now))

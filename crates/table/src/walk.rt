@@ -1,0 +1,59 @@
+// Document 01, "The saved network": the rows one after the other, each where the one before it ends.
+ghost use Rattle.std.specs.Prelude.{◌≡◌, ◌-◌, ◌≤◌, length};
+ghost use Rattle.std.specs.Iterator.{at_most};
+ghost use Rattle.table.specs.Rows.{row_start};
+ghost use Rattle.table.specs.Walk.{Walk, walk, next_row};
+
+use crate::network::{HEADER, row_from};
+use std::marker::Model;
+
+// The rows of a network that are still to come.
+#[derive(Drop)]
+pub struct Rows<'a> {
+    net: &'a [u8],
+    at: usize,
+    passed: usize,
+    count: usize,
+}
+
+impl<'a> Model for Rows<'a> {
+    ghost Value = { Walk };
+
+    ghost view = { λ s. record { net = s.net.now; passed = s.passed; count = s.count } };
+
+    ghost invariant = { λ s. (row_start s.net.now s.count ≤ length s.net.now) × (s.passed ≤ s.count) × (s.at ≡ row_start s.net.now s.passed) };
+}
+
+impl<'a> Rows<'a> {
+    // The first n rows.
+    #[tactic(auto, unfolding(crate::specs::Rows::row_start))]
+    pub fn first(net: &'a [u8], n: usize) -> Rows<'a>
+        requires { row_start net.now n ≤ length net.now }
+        ensures { result ≡ walk net.now n }
+    {
+        Rows {
+            net,
+            at: HEADER,
+            passed: 0,
+            count: n,
+        }
+    }
+}
+
+impl<'a> Iterator for Rows<'a> {
+    type Item = &'a [u8];
+
+    ghost next_gives = { next_row };
+
+    ghost remaining = { λ s. at_most (s.count - s.passed) };
+
+    fn next(&mut self) -> Option<&'a [u8]> {
+        if self.passed == self.count {
+            return None;
+        }
+        let row = row_from(self.net, self.at);
+        self.at += row.len();
+        self.passed += 1;
+        Some(row)
+    }
+}
