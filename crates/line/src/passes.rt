@@ -5,6 +5,7 @@ ghost use Rattle.card.specs.Row.{register_bytes, Whole, well_formed};
 ghost use Rattle.table.specs.Network.{rows, on_regs, shape};
 ghost use Rattle.line.specs.Traffic.{happens, happened, takes, carried_row, carried};
 
+use bits::way::Way;
 use card::packets::Packet;
 use registers::regs::Regs;
 use table::network::{HEADER, row_end, rows};
@@ -74,8 +75,8 @@ fn carry_row(row: &mut [u8], k: usize, h: usize, to: Option<usize>, packet: Pack
     ensures { (n : ℕ) → k < n → row.new ≡ carried_row h (unwrap_or to n) (is_none to) packet k row.old }
 {
     let g = card::row::load(row);
-    if takes(g, k, h, to) & g.receiving() & packet.shape.storable(g) {
-        card::packets::store_packet(row, g.receive_page(), packet);
+    if takes(g, k, h, to) & g.waiting(Way::Receive) & packet.shape.storable(g) {
+        card::packets::store_packet(row, g.page(Way::Receive), packet);
         let g = card::row::load(row).received();
         card::row::store(row, g);
     }

@@ -8,6 +8,7 @@ ghost use Rattle.table.specs.Network.{rows, shape};
 ghost use Rattle.line.specs.Traffic.{outcome_row, HasRow, stamped_net, went_out, asked, broadcast_turn, packet_turn, enquiry_turn, try_turn, taken_turn};
 
 use crate::passes::{Event, carry, happen};
+use bits::way::Way;
 use card::packets::Shape;
 use table::network::{node_of, put_regs, regs_at, row_at, row_end, row_start, rows};
 
@@ -125,7 +126,7 @@ impl Sending {
             asked(net, self.h, false);
             return Outcome::NoAnswer;
         };
-        if regs_at(net, t).receiving() {
+        if regs_at(net, t).waiting(Way::Receive) {
             return self.deliver(net, t);
         }
         asked(net, self.h, true);
@@ -175,8 +176,8 @@ pub(crate) fn taken(net: &mut [u8], h: usize, fault: usize) -> Outcome
 {
     let g = regs_at(net, h).cancelled();
     put_regs(net, h, g);
-    if g.transmitting() {
-        let page = g.transmit_page();
+    if g.waiting(Way::Transmit) {
+        let page = g.page(Way::Transmit);
         return Sending { h, page, fault }.attempt(net);
     }
     Outcome::Nothing

@@ -54,10 +54,10 @@ fn cells(g: Regs) -> [u8; 14] {
     let mut cells = *b"  OFF   -    -";
     cells[3] = choose(on, b'N', b'F');
     cells[4] = choose(on, b' ', b'F');
-    cells[8] = choose(g.transmitting(), page(g.transmit.oldest), b'-');
+    cells[8] = choose(g.waiting(Way::Transmit), page(g.transmit.oldest), b'-');
     cells[9] = choose(two, b',', b' ');
     cells[10] = choose(two, page(g.transmit.second), b' ');
-    cells[13] = choose(g.receiving(), page(g.receive.oldest), b'-');
+    cells[13] = choose(g.waiting(Way::Receive), page(g.receive.oldest), b'-');
     cells
 }
 

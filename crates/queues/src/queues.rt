@@ -103,7 +103,7 @@ impl Queue {
 
 impl Side {
     // One waits.
-    pub(crate) fn waiting(self, way: Way) -> bool
+    pub fn waiting(self, way: Way) -> bool
         ensures { result ≡ waiting way self }
     {
         self.status & free_flag(way) == 0

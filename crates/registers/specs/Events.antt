@@ -1,6 +1,7 @@
 -- Document 01, "One line step": what the line does to one card's registers, and what it asks of them.
 -- Assumes nothing.
 use Rattle.std.specs.Prelude.{Bool, true, false, not, ◌&&◌, ℕ, ◌+◌, ◌%◌, eqb}
+use Rattle.bits.specs.declared.way.Way.{Way}
 use Rattle.bits.specs.declared.way.Way.TheVariants.{Transmit, Receive}
 use Rattle.registers.specs.declared.regs.Regs.{Regs}
 use Rattle.bits.specs.Words.{pick, clear, has, raise, raise_if}
@@ -65,6 +66,11 @@ transmitting g = clear TA g.status
 unfoldable pub receiving : Regs → Bool
 receiving g = clear RI g.status
 
+-- of either side
+abbrev pub waits : Way → Regs → Bool
+waits Transmit g = transmitting g
+waits Receive g = receiving g
+
 -- "awake row .. with RI = 0 and broadcasts wanted"
 unfoldable pub takes_broadcasts : Regs → Bool
 takes_broadcasts g = awake g && receiving g && has BROADCASTS g.receive.oldest
@@ -75,3 +81,8 @@ transmit_page g = g.transmit.oldest % 4
 
 unfoldable pub receive_page : Regs → ℕ
 receive_page g = g.receive.oldest % 4
+
+-- of either side
+abbrev pub page : Way → Regs → ℕ
+page Transmit g = transmit_page g
+page Receive g = receive_page g

@@ -1,10 +1,10 @@
 // Document 01, "One line step": what the line does to one card's registers, and what it asks of them.
 ghost use Rattle.std.specs.Prelude.{◌≡◌};
-ghost use Rattle.registers.specs.Events.{burst, recovered, heard, answered, risen_nid, cancelled, sent, enquired, received, transmitting, receiving, takes_broadcasts, transmit_page, receive_page};
+ghost use Rattle.registers.specs.Events.{burst, recovered, heard, answered, risen_nid, cancelled, sent, enquired, received, waits, takes_broadcasts, page};
 
 use crate::regs::Regs;
 use bits::choice::choose;
-use bits::flags::{BROADCASTS, CANCEL, DUPID, MYRECON, RCVACT, RECON, RI, TA, TENTID, TOKEN};
+use bits::flags::{BROADCASTS, CANCEL, DUPID, MYRECON, RCVACT, RECON, TENTID, TOKEN};
 use bits::way::Way;
 
 impl Regs {
@@ -110,38 +110,26 @@ impl Regs {
         self.ended(Way::Receive, false)
     }
 
-    #[tactic(auto, unfolding(crate::specs::Events::transmitting))]
-    pub fn transmitting(self) -> bool
-        ensures { result ≡ transmitting self }
+    // A transmit waits, or the receiver is enabled.
+    #[tactic(auto, unfolding(crate::specs::Events::transmitting, crate::specs::Events::receiving))]
+    pub fn waiting(self, way: Way) -> bool
+        ensures { result ≡ waits way self }
     {
-        self.status & TA == 0
-    }
-
-    #[tactic(auto, unfolding(crate::specs::Events::receiving))]
-    pub fn receiving(self) -> bool
-        ensures { result ≡ receiving self }
-    {
-        self.status & RI == 0
+        self.side(way).waiting(way)
     }
 
     #[tactic(auto, unfolding(crate::specs::Events::takes_broadcasts))]
     pub fn takes_broadcasts(self) -> bool
         ensures { result ≡ takes_broadcasts self }
     {
-        self.awake() & self.receiving() & (self.receive.oldest & BROADCASTS != 0)
+        self.awake() & self.waiting(Way::Receive) & (self.receive.oldest & BROADCASTS != 0)
     }
 
-    #[tactic(auto, unfolding(crate::specs::Events::transmit_page))]
-    pub fn transmit_page(self) -> usize
-        ensures { result ≡ transmit_page self }
+    // The page of the oldest.
+    #[tactic(auto, unfolding(crate::specs::Events::transmit_page, crate::specs::Events::receive_page))]
+    pub fn page(self, way: Way) -> usize
+        ensures { result ≡ page way self }
     {
-        (self.transmit.oldest % 4) as usize
-    }
-
-    #[tactic(auto, unfolding(crate::specs::Events::receive_page))]
-    pub fn receive_page(self) -> usize
-        ensures { result ≡ receive_page self }
-    {
-        (self.receive.oldest % 4) as usize
+        (self.side(way).queue.oldest % 4) as usize
     }
 }

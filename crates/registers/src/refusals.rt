@@ -1,6 +1,8 @@
 // Document 01, "Numbers a caller may get": what a register access to one card is refused with.
-ghost use Rattle.std.specs.Prelude.{◌≡◌, not};
+ghost use Rattle.std.specs.Prelude.{◌≡◌, not, ◌||◌};
+ghost use Rattle.bits.specs.declared.way.Way.TheVariants.{Transmit, Receive};
 ghost use Rattle.commands.specs.Commands.{illegal};
+ghost use Rattle.registers.specs.Events.{waits};
 ghost use Rattle.registers.specs.Sides.{chaining};
 ghost use Rattle.told.specs.Numbers.{told};
 ghost use Rattle.told.specs.Refusals.{number};
@@ -8,6 +10,7 @@ ghost use Rattle.registers.specs.Refusals.{no_register, bad_value, busy, chain_b
 
 use crate::regs::Regs;
 use bits::flags::{MASK, MODE, RDDATA, SETUP};
+use bits::way::Way;
 use commands::commands::{Command, decode};
 use told::refusals::Refusal;
 
@@ -41,6 +44,13 @@ impl Regs {
             | (register == 7) & (self.sub_address() == 2) & (value & !SETUP != 0)
     }
 
+    // Something waits, on one side or the other.
+    fn any_waiting(self) -> bool
+        ensures { result ≡ waits Transmit self || waits Receive self }
+    {
+        self.waiting(Way::Transmit) | self.waiting(Way::Receive)
+    }
+
     // BUSY: what the command would start or change is enabled already.
     #[tactic(auto, unfolding(crate::specs::Events::transmitting, crate::specs::Events::receiving))]
     fn busy(self, command: Option<Command>) -> bool
@@ -48,7 +58,7 @@ impl Regs {
     {
         match command {
             Some(Command::Enable(way, _)) => self.full(way),
-            Some(Command::LongPackets(_)) => self.transmitting() | self.receiving(),
+            Some(Command::LongPackets(_)) => self.any_waiting(),
             _ => false,
         }
     }
@@ -58,7 +68,7 @@ impl Regs {
     fn chain_busy(self, value: u8) -> bool
         ensures { result ≡ chain_busy self value }
     {
-        self.changes_chaining(value) & (self.transmitting() | self.receiving())
+        self.changes_chaining(value) & self.any_waiting()
     }
 
     // PAGE: an Enable of an odd page with long packets.

@@ -9,10 +9,10 @@ load-g-requires c = whole_registers _ c.requires.whole
 
 pub store_packet-requires : goal.store_packet-requires
 store_packet-requires c =
-    let test = c.if-takes-receiving.true in
-    let a = sym c.receiving.ensures ∙ and_right c.takes.result c.receiving.result (and_left (c.takes.result && c.receiving.result) c.storable.result test) in
-    let b = sym c.storable.ensures ∙ and_right (c.takes.result && c.receiving.result) c.storable.result test in
-    let e = room _ c.requires.whole c.requires.row_value _ c.load-g.ensures a _ b _ c.receive_page.ensures in
+    let test = c.if-takes-waiting.true in
+    let a = sym c.waiting.ensures ∙ and_right c.takes.result c.waiting.result (and_left (c.takes.result && c.waiting.result) c.storable.result test) in
+    let b = sym c.storable.ensures ∙ and_right (c.takes.result && c.waiting.result) c.storable.result test in
+    let e = room _ c.requires.whole c.requires.row_value _ c.load-g.ensures a _ b _ c.page.ensures in
     record { whole = c.requires.whole; page_bound = e.0; shape_in_bounds = e.1 }
 
 -- the row is as long as it was
