@@ -1,7 +1,6 @@
 -- TAKEN: the holder's turn and its packet.
 pub mod Sends
 pub mod Tries
-pub mod Turns
 pub mod Readied
 pub mod Storing
 pub mod Says

@@ -9,7 +9,7 @@ ghost use Rattle.line.specs.Step.{answer_value, lost_turn, pass_turn, step_turn,
 use crate::passes::{Event, happen};
 use crate::traffic::{Outcome, taken};
 use table::network::{
-    LOST, PASS, TAKEN, holder, node_of, phase, put_regs, regs_at, rows, shape, top_id, turn, wide,
+    LOST, PASS, TAKEN, holder, node_of, phase, put_regs, regs_at, rows, shape, top_id, turn,
 };
 use told::refusals::Refusal;
 
@@ -25,15 +25,18 @@ pub enum Answer {
 }
 
 impl Answer {
-    // The row, or the ID, that the answer names; 0 where it names none.
+    // The row, or the ID, that the answer names; of Held the row that answered the enquiry.
+    // Kept: 0 where it names none, as `Step.answer_value` has it and the lap's laws read it.
     pub fn value(self) -> usize
         ensures { result ≡ answer_value (said self) }
     {
         match self {
             Answer::Recovered(row) | Answer::Passed(row) => row,
-            Answer::Unanswered(id) => wide(id),
-            Answer::Held(o) => o.row(),
-            Answer::Quiet | Answer::TokenLost => 0,
+            Answer::Unanswered(id) => usize::from(id),
+            Answer::Held(
+                Outcome::Nak(row) | Outcome::Delivered(row, _) | Outcome::Unacknowledged(row, _, _),
+            ) => row,
+            Answer::Quiet | Answer::TokenLost | Answer::Held(_) => 0,
         }
     }
 }

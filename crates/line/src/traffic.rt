@@ -5,7 +5,7 @@ ghost use Rattle.std.specs.Prelude.{◌≡◌, true, ◌<◌, IfSome, is_none, u
 ghost use Rattle.card.specs.Packets.{page_shape};
 ghost use Rattle.table.specs.Rows.{row_at};
 ghost use Rattle.table.specs.Network.{rows, shape};
-ghost use Rattle.line.specs.Traffic.{outcome_row, HasRow, stamped_net, went_out, asked, broadcast_turn, packet_turn, enquiry_turn, try_turn, taken_turn};
+ghost use Rattle.line.specs.Traffic.{HasRow, stamped_net, went_out, asked, broadcast_turn, packet_turn, enquiry_turn, try_turn, taken_turn};
 
 use crate::passes::{Event, carry, happen};
 use bits::way::Way;
@@ -23,20 +23,6 @@ pub enum Outcome {
     Nak(usize),
     Delivered(usize, Shape),
     Unacknowledged(usize, Shape, bool),
-}
-
-impl Outcome {
-    // The row that answered the enquiry; 0 where none did.
-    pub(crate) fn row(self) -> usize
-        ensures { result ≡ outcome_row self }
-    {
-        match self {
-            Outcome::Nak(row)
-            | Outcome::Delivered(row, _)
-            | Outcome::Unacknowledged(row, _, _) => row,
-            Outcome::Nothing | Outcome::Malformed | Outcome::Broadcast(_) | Outcome::NoAnswer => 0,
-        }
-    }
 }
 
 // An enquiry of row h that no packet follows: the others hear it, and a NAK answered it or nobody did.
