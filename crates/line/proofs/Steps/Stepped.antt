@@ -29,11 +29,6 @@ module _ (net : List ℕ) (fault : ℕ) where
     unfolding step_number step_refusals
     step_shape z = not-false (shape net) (none_refuses (step_refusals net fault) refl (sym number_is ∙ z) SHAPE)
 
-    pub steps : k ≡ 0 → (a : Answer) (y : List ℕ) → (a ≡ (step_turn net fault).answer) × (y ≡ (step_turn net fault).after)
-        → (a ≡ (step net fault).answer) × (y ≡ (step net fault).after)
-    unfolding step
-    steps z a y e = (rw (← number_is, eq-eqb _ _ z) e.0, rw (← number_is, eq-eqb _ _ z) e.1)
-
 -- ---- the number of what a step answers is that of its refusals
 abbrev Done : Turn Answer → Type 0
 Done t = answer_number t.answer ≡ 0
