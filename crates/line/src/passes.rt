@@ -69,6 +69,7 @@ fn takes(g: Regs, k: usize, h: usize, to: Option<usize>) -> bool
 }
 
 // A packet that row k takes is stored in its receive page, where that can be.
+#[tactic(auto, using(card::proofs::Rows::Sizes::whole_registers, crate::proofs::Change::Carry::room, registers::proofs::Values::Ends::receive_page_small))]
 fn carry_row(row: &mut [u8], k: usize, h: usize, to: Option<usize>, packet: Packet)
     requires whole { Whole row.old }
     requires row_value { well_formed row.old ≡ true }

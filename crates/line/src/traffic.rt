@@ -47,7 +47,7 @@ struct Sending {
 
 impl Sending {
     // The row's ID is put at the packet's head.
-    #[tactic(auto, using(crate::proofs::Rooms::rooms))]
+    #[tactic(auto, using(crate::proofs::Rooms::rooms, table::proofs::Rows::Walks::walked_room, table::proofs::Rows::Walks::row_sized, crate::proofs::Turn::Sends::stamped_is, crate::proofs::Turn::Sends::stamped_fits))]
     fn stamp(self, net: &mut [u8])
         requires { HasRow net.old self.h }
         ensures bytes { net.new ≡ stamped_net net.old self.h self.page }
@@ -154,7 +154,7 @@ impl Sending {
 }
 
 // TAKEN: the cancels asked of the holder take effect, and then it tries its packet.
-#[tactic(auto, using(crate::proofs::Rooms::rooms))]
+#[tactic(auto, using(crate::proofs::Rooms::rooms, crate::proofs::Turn::Tries::cancels_row, crate::proofs::Turn::Tries::taken_nothing, crate::proofs::Turn::Tries::taken_tried, registers::proofs::Values::Ends::transmit_page_small))]
 pub(crate) fn taken(net: &mut [u8], h: usize, fault: usize) -> Outcome
     requires { HasRow net.old h }
     ensures answer { result ≡ (taken_turn net.old h fault).answer }

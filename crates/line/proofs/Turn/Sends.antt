@@ -1,31 +1,27 @@
 -- A packet goes out, put together from what its parts ensure.
 -- Assumes nothing.
-use mathlib.Core.Path.{◌≡◌, sym, ◌∙◌, ap}
+use mathlib.Core.Path.{◌≡◌}
 use mathlib.Core.Bool.{Bool, true, false}
 use mathlib.Core.List.{List}
 use Prim.Native.Nat.{ℕ, ◌+◌, ◌-◌, ◌≤◌, ◌<◌}
 use native.Mathlib.Omega.{arith}
-use borrow.Author.Tests.{eq-eqb, ne_eqb}
 use borrow.Rule.Slice.PartMut.{mid_of, put_mid}
 use lib.ListN.{length, drop}
 use Rattle.registers.specs.declared.regs.Regs.{Regs}
-use Rattle.card.specs.declared.packets.Packet.{Packet}
-use Rattle.line.specs.declared.passes.Event.{Event}
 use Rattle.line.specs.declared.passes.Event.TheVariants.{Message}
 use Rattle.card.specs.Row.{row_size, put_regs}
 use Rattle.card.specs.Packets.{page_at, packet_at, stamped}
 use Rattle.bits.proofs.Words.Bools.{pick_of}
 use Rattle.card.proofs.Pages.Packets.{packet_full, packet_count}
 use Rattle.card.proofs.Rows.Rams.{packet_bytes}
-use Rattle.table.specs.Rows.{row_start, row_at, set_row, each_row}
-use Rattle.table.specs.Network.{Bytes, rows, on_regs, regs_at, rows_fit, shape}
-use Rattle.line.specs.Traffic.{HasRow, on_row, happens, happened, damaged, carried_row, carried, stamped_net, went_out}
+use Rattle.table.specs.Rows.{row_start, row_at, set_row}
+use Rattle.table.specs.Network.{Bytes, rows, regs_at, shape}
+use Rattle.line.specs.Traffic.{HasRow, on_row, happened, damaged, stamped_net, went_out}
 use Rattle.table.proofs.Rows.Walks.{walked_lies, row_done_lem}
-use Rattle.table.proofs.Shaped.Shapes.{shape_within, shape_fits, shape_row_whole}
-use Rattle.table.proofs.Shaped.Bounds.{Bounds, new_bounds}
+use Rattle.table.proofs.Shaped.Shapes.{shape_within, shape_row_whole}
 use Rattle.table.proofs.Shaped.Alike.{Rams, bytes_rams, Alike, alike_then, alike_moved}
 use Rattle.line.proofs.Change.Changes.{Reaches, Stamps, Carries, WholePacket}
-use Rattle.line.proofs.Change.Made.{moved_done, shape_done, rows_done, shape_happened, rows_happened}
+use Rattle.line.proofs.Change.Made.{moved_done, shape_done, rows_done}
 
 -- a packet that is read out of a page of row h is whole
 pub whole_packet : (net : List ℕ) → shape net ≡ true → Rams net → (h : ℕ) → h < rows net → (p : ℕ) → p < 4 → WholePacket (packet_at (row_at net h) p)
@@ -40,14 +36,18 @@ module _ (net : List ℕ) (s : shape net ≡ true) (h p : ℕ) (l : h < rows net
       → m ≡ stamped (mid_of a (e - a) net) (page_at (mid_of a (e - a) net) p) → put_mid a (e - a) net m ≡ stamped_net net h p
   stamped_is a ea e ee m d = row_done_lem net h a e (walked_lies net h a ea (shape_within net s h l) e ee) (λ r. stamped r (page_at r p)) m d
 
-  pub shape_stamped : shape (stamped_net net h p) ≡ true
+  shape_stamped : shape (stamped_net net h p) ≡ true
   shape_stamped = shape_done net h s l (Stamps p) tt tt
 
-  pub rows_stamped : rows (stamped_net net h p) ≡ rows net
+  rows_stamped : rows (stamped_net net h p) ≡ rows net
   rows_stamped = rows_done net h s l (Stamps p) tt tt
 
   abbrev went : List ℕ
   went = happened (stamped_net net h p) (Message h false)
+
+  pub stamped_fits : (a : ℕ) → a ≡ row_start net h → (e : ℕ) → (e ≡ a + row_size (drop a net)) × (e ≤ length net) → (m : List ℕ)
+      → m ≡ stamped (mid_of a (e - a) net) (page_at (mid_of a (e - a) net) p) → (shape (put_mid a (e - a) net m) ≡ true) × (rows (put_mid a (e - a) net m) ≡ rows net)
+  stamped_fits a ea e ee m d = rw (stamped_is a ea e ee m d) (shape_stamped, rows_stamped)
 
   -- the network that it leaves: the rows of `net`, still well formed
   module _ (b : Rams net) (q : p < 4) where

@@ -3,10 +3,9 @@
 use mathlib.Core.Path.{◌≡◌, refl, sym, ◌∙◌, ap}
 use mathlib.Core.Bool.{Bool, true, false}
 use mathlib.Core.List.{List}
-use Prim.Native.Nat.{ℕ, ◌<◌}
+use Prim.Native.Nat.{ℕ}
 use native.Mathlib.Omega.{arith}
 use Rattle.registers.specs.declared.regs.Regs.{Regs}
-use Rattle.line.specs.declared.traffic.Outcome.{Outcome}
 use Rattle.line.specs.declared.traffic.Outcome.TheVariants.{Nothing}
 use Rattle.card.specs.Row.{regs_of, put_regs}
 use Rattle.registers.specs.Events.{cancelled, transmitting, transmit_page}
@@ -48,18 +47,16 @@ module _ (net : List ℕ) (h : ℕ) (has : HasRow net h) (fault : ℕ)
     waits : b ≡ transmitting (regs_at (on_row net h cancelled) h)
     waits = eb ∙ ap transmitting there
 
-    pub taken_nothing : b ≡ false → (Nothing ≡ (taken_turn net h fault).answer) × (x ≡ (taken_turn net h fault).after)
+    pub taken_nothing : b ≡ false → taken_turn net h fault ≡ record { answer = Nothing; after = x }
     unfolding taken_turn
-    taken_nothing f = let v = sym waits ∙ f in (rw v, rw v after_cancels)
+    taken_nothing f = let v = sym waits ∙ f in rw (v, ← after_cancels)
 
-    pub taken_tried : b ≡ true → (page : ℕ) → page ≡ transmit_page g → (o : Outcome) (y : List ℕ)
-        → (o ≡ (try_turn x h page fault).answer) × (y ≡ (try_turn x h page fault).after)
-        → (o ≡ (taken_turn net h fault).answer) × (y ≡ (taken_turn net h fault).after)
+    pub taken_tried : b ≡ true → (page : ℕ) → page ≡ transmit_page g → taken_turn net h fault ≡ try_turn x h page fault
     unfolding taken_turn
-    taken_tried t page ep o y e =
+    taken_tried t page ep =
         let v = sym waits ∙ t in
         let k : page ≡ transmit_page (regs_at (on_row net h cancelled) h) = ep ∙ ap transmit_page there in
-        (rw (v, ← k, ← after_cancels) e.0, rw (v, ← k, ← after_cancels) e.1)
+        rw (v, ← k, ← after_cancels)
 
 -- the row that a search found, or the number of rows where it found none, is what the search gives
 pub found_or : (to : Option ℕ) (net : List ℕ) (i x n : ℕ) → to ≡ below n (node_of net i x n) → unwrap_or to n ≡ node_of net i x n
