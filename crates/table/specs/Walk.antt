@@ -3,7 +3,7 @@
 use Rattle.std.specs.Prelude.{◌≡◌, Option, List, ℕ, ◌+◌, ◌≤◌, ◌<◌, length, MatchOption}
 use Rattle.std.specs.Borrow.{Bor}
 use Rattle.card.specs.Row.{register_bytes, Whole}
-use Rattle.table.specs.Rows.{row_at}
+use Rattle.table.specs.Rows.{row_at, with_rows}
 
 -- the first `count` rows of the network are gone over, and `passed` of them are behind
 pub record Walk : Type 0 where
@@ -21,3 +21,9 @@ next_row s r t =
     MatchOption r ((s.passed ≡ s.count) × (t ≡ s))
     (λ row. (s.passed < s.count) × (t ≡ record { net = s.net; passed = s.passed + 1; count = s.count }) × (row.now ≡ row_at s.net s.passed) × (Whole row.now)
     × (register_bytes ≤ length row.now))
+
+-- each of the first n rows has become another, as `becomes` says of its number, of what it was and of what it is
+pub record EachChanged (becomes : ℕ → List ℕ → List ℕ → Type 0) (net new : List ℕ) (n : ℕ) : Type 0 where
+  pub row : ℕ → List ℕ
+  pub changed : (k : ℕ) → k < n → becomes k (row_at net k) (row k)
+  pub is : new ≡ with_rows net n row

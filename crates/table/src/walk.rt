@@ -1,10 +1,11 @@
 // Document 01, "The saved network": the rows one after the other, each where the one before it ends.
-ghost use Rattle.std.specs.Prelude.{◌≡◌, ◌-◌, ◌≤◌, length};
+ghost use Rattle.std.specs.Prelude.{◌≡◌, ℕ, ◌-◌, ◌≤◌, ◌<◌, length};
+ghost use Rattle.std.specs.Fork.{AcceptsAt, ChangesAt};
 ghost use Rattle.std.specs.Iterator.{at_most};
-ghost use Rattle.table.specs.Rows.{row_start};
-ghost use Rattle.table.specs.Walk.{Walk, walk, next_row};
+ghost use Rattle.table.specs.Rows.{row_start, row_at};
+ghost use Rattle.table.specs.Walk.{Walk, walk, next_row, EachChanged};
 
-use crate::network::{HEADER, row_from};
+use crate::network::{HEADER, row_end, row_from};
 use std::marker::Model;
 
 // The rows of a network that are still to come.
@@ -55,5 +56,26 @@ impl<'a> Iterator for Rows<'a> {
         self.at += row.len();
         self.passed += 1;
         Some(row)
+    }
+}
+
+fn lend<F: Fn(usize, &mut [u8])>(f: &F, k: usize, row: &mut [u8])
+    requires { AcceptsAt F.Fn f.now k row.old }
+    ensures { ChangesAt F.Fn f.now k row.old row.new }
+{
+    f(k, row);
+}
+
+// Each of the first n rows is lent to f, with its number.
+pub fn each_row_mut<F: Fn(usize, &mut [u8])>(net: &mut [u8], n: usize, f: F)
+    requires room { row_start net.old n ≤ length net.old }
+    requires accepts { (k : ℕ) → k < n → AcceptsAt F.Fn f k (row_at net.old k) }
+    ensures { EachChanged (ChangesAt F.Fn f) net.old net.new n }
+{
+    let mut a = HEADER;
+    for k in 0..n {
+        let e = row_end(net, a);
+        lend(&f, k, &mut net[a..e]);
+        a = e;
     }
 }
