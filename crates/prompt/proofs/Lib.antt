@@ -1,2 +1,1 @@
 pub mod Fnv
-pub mod Moves

@@ -1,18 +1,17 @@
 // The answer lines. Where a write fails, its error is handed back, and the rest of the line is not gathered.
-ghost use Rattle.std.specs.Prelude.{◌≡◌, [], ◌∷◌, ◌++◌, OnOk, OnErr};
-ghost use Rattle.print.specs.Gather.{got, line_of, spaced, Unwritten, NEWLINE};
-ghost use Rattle.prompt.specs.Answers.{DONE as DONE_TEXT};
+ghost use Rattle.std.specs.Prelude.{◌++◌};
+ghost use Rattle.print.specs.Gather.{Ends, spaced};
+ghost use Rattle.prompt.specs.Answers.{DONE};
 
 use line::step::Answer;
 use line::traffic::Outcome;
-use orders::check::Checked;
-use print::gather::{ROOM, end, number, spaced, text};
+use orders::check::Bad;
+use print::gather::Output;
 use std::io;
-use table::calls::{Interrupting, Reading};
-use words::words::part;
+use told::refusals::Refusal;
 
 // What was not understood.
-#[derive(Clone, Copy)]
+#[derive(Clone, Copy, Debug, PartialEq, Eq)]
 pub enum Mistake {
     Long,
     Spaces,
@@ -25,176 +24,129 @@ pub enum Mistake {
     Room,
 }
 
-// An answer of one line: the place of its text in `TEXTS`, and the number after it where there is one.
+// An answer of one line: a text or a refusal, and the number after it where there is one.
 #[derive(Clone, Copy)]
-pub struct Told {
-    pub text: usize,
-    pub valued: bool,
-    pub value: usize,
+pub enum Told {
+    Said(&'static str, Option<usize>),
+    Refused(Refusal, Option<usize>),
 }
 
-// The places of the texts. Those after DONE are the refusals of 01, "Numbers a caller may get", by their numbers.
-const QUIET: usize = 0;
-
-const TOKENLOST: usize = 1;
-
-const RECOVERED: usize = 2;
-
-const PASSED: usize = 3;
-
-const UNANSWERED: usize = 4;
-
-const HELD: usize = 5;
-
-const ERROR: usize = 12;
-
-const DONE: usize = 21;
-
-// A line for each text. That of 11 is empty: no call tells it (C-20).
-const TEXTS: [u8; 734] = *b"QUIET\n\
-    TOKENLOST\n\
-    RECOVERED\n\
-    PASSED\n\
-    UNANSWERED\n\
-    HELD NOTHING\n\
-    HELD MALFORMED\n\
-    HELD BROADCAST\n\
-    HELD NOANSWER\n\
-    HELD NAK\n\
-    HELD DELIVERED\n\
-    HELD UNACKNOWLEDGED\n\
-    ERROR the line is too long\n\
-    ERROR words are separated by single spaces\n\
-    ERROR no such word\n\
-    ERROR too few words, or too many\n\
-    ERROR not a number up to 4294967295\n\
-    ERROR not pairs of hex digits\n\
-    ERROR a size is at most 66400\n\
-    ERROR outside the lent bytes\n\
-    ERROR a room is at most 70\n\
-    DONE\n\
-    REFUSED 1 SHAPE\n\
-    REFUSED 2 ROW\n\
-    REFUSED 3 REGISTER\n\
-    REFUSED 4 VALUE\n\
-    REFUSED 5 NOTREADY\n\
-    REFUSED 6 DIRECTION\n\
-    REFUSED 7 BUSY\n\
-    REFUSED 8 ONLINE\n\
-    REFUSED 9 PAGE\n\
-    REFUSED 10 DUPLICATE\n\
-    \n\
-    REFUSED 12 ALONE\n\
-    REFUSED 13 ROOM\n\
-    REFUSED 14 LENGTH\n\
-    REFUSED 15 MARK\n\
-    REFUSED 16 ORDER-ID\n\
-    REFUSED 17 FLAGS\n\
-    REFUSED 18 NAME\n\
-    REFUSED 19 TWICE\n";
-
-pub fn tell(rt: &impl Print, out: &mut [u8; ROOM], told: Told) -> io::Result<()> {
-    let words = part(&TEXTS, b'\n', told.text);
-    let mut n = text(rt, out, 0, words)?;
-    if told.valued {
-        n = number(rt, out, n, told.value)?;
-    }
-    end(rt, out, n)
-}
-
-fn worded(text: usize) -> Told {
-    Told {
-        text,
-        valued: false,
-        value: 0,
+impl From<()> for Told {
+    fn from(_done: ()) -> Told {
+        Told::Said("DONE", None)
     }
 }
 
-fn valued(text: usize, value: usize) -> Told {
-    Told {
-        text,
-        valued: true,
-        value,
+impl From<usize> for Told {
+    fn from(value: usize) -> Told {
+        Told::Said("DONE", Some(value))
     }
 }
 
-// DONE, or the refusal of the number.
-pub fn numbered(number: u8) -> Told {
-    worded(DONE + number as usize)
-}
-
-// DONE and the value, or the refusal of the number.
-pub fn reading(reading: Reading) -> Told {
-    Told {
-        text: DONE + reading.number as usize,
-        valued: reading.number == 0,
-        value: reading.value as usize,
+impl From<u8> for Told {
+    fn from(value: u8) -> Told {
+        Told::from(value as usize)
     }
 }
 
-// DONE, or the refusal of the number and the record that it names, if it names one (C-12).
-pub fn checked(checked: Checked) -> Told {
-    Told {
-        text: DONE + checked.number as usize,
-        valued: checked.bad != 0,
-        value: checked.bad,
+impl From<bool> for Told {
+    fn from(active: bool) -> Told {
+        Told::from(active as usize)
     }
 }
 
-pub fn interrupting(interrupting: Interrupting) -> Told {
-    Told {
-        text: DONE + interrupting.number as usize,
-        valued: interrupting.number == 0,
-        value: interrupting.active as usize,
+impl From<Refusal> for Told {
+    fn from(refusal: Refusal) -> Told {
+        Told::Refused(refusal, None)
+    }
+}
+
+// The record that is named is counted from 1 (C-12).
+impl From<Bad> for Told {
+    fn from(bad: Bad) -> Told {
+        Told::Refused(bad.refusal, bad.record.map(|k| k.saturating_add(1)))
     }
 }
 
 // C-16: an outcome names the row that answered the enquiry.
-fn held(outcome: Outcome) -> Told {
-    match outcome {
-        Outcome::Nothing => worded(HELD),
-        Outcome::Malformed => worded(HELD + 1),
-        Outcome::Broadcast(_) => worded(HELD + 2),
-        Outcome::NoAnswer => worded(HELD + 3),
-        Outcome::Nak(row) => valued(HELD + 4, row),
-        Outcome::Delivered(row, _) => valued(HELD + 5, row),
-        Outcome::Unacknowledged(row, _, _) => valued(HELD + 6, row),
+impl From<Outcome> for Told {
+    fn from(outcome: Outcome) -> Told {
+        match outcome {
+            Outcome::Nothing => Told::Said("HELD NOTHING", None),
+            Outcome::Malformed => Told::Said("HELD MALFORMED", None),
+            Outcome::Broadcast(_) => Told::Said("HELD BROADCAST", None),
+            Outcome::NoAnswer => Told::Said("HELD NOANSWER", None),
+            Outcome::Nak(row) => Told::Said("HELD NAK", Some(row)),
+            Outcome::Delivered(row, _) => Told::Said("HELD DELIVERED", Some(row)),
+            Outcome::Unacknowledged(row, _, _) => Told::Said("HELD UNACKNOWLEDGED", Some(row)),
+        }
     }
 }
 
-pub fn step(answer: Answer) -> Told {
-    match answer {
-        Answer::Refused(number) => numbered(number),
-        Answer::Quiet => worded(QUIET),
-        Answer::Recovered(row) => valued(RECOVERED, row),
-        Answer::Passed(row) => valued(PASSED, row),
-        Answer::Unanswered(id) => valued(UNANSWERED, id as usize),
-        Answer::TokenLost => worded(TOKENLOST),
-        Answer::Held(outcome) => held(outcome),
+impl From<Answer> for Told {
+    fn from(answer: Answer) -> Told {
+        match answer {
+            Answer::Quiet => Told::Said("QUIET", None),
+            Answer::Recovered(row) => Told::Said("RECOVERED", Some(row)),
+            Answer::Passed(row) => Told::Said("PASSED", Some(row)),
+            Answer::Unanswered(id) => Told::Said("UNANSWERED", Some(id as usize)),
+            Answer::TokenLost => Told::Said("TOKENLOST", None),
+            Answer::Held(outcome) => Told::from(outcome),
+        }
     }
 }
 
-pub fn error(mistake: Mistake) -> Told {
-    let text = match mistake {
-        Mistake::Long => ERROR,
-        Mistake::Spaces => ERROR + 1,
-        Mistake::Word => ERROR + 2,
-        Mistake::Count => ERROR + 3,
-        Mistake::Number => ERROR + 4,
-        Mistake::Hex => ERROR + 5,
-        Mistake::Size => ERROR + 6,
-        Mistake::Outside => ERROR + 7,
-        Mistake::Room => ERROR + 8,
+impl From<Mistake> for Told {
+    fn from(mistake: Mistake) -> Told {
+        let text = match mistake {
+            Mistake::Long => "ERROR the line is too long",
+            Mistake::Spaces => "ERROR words are separated by single spaces",
+            Mistake::Word => "ERROR no such word",
+            Mistake::Count => "ERROR too few words, or too many",
+            Mistake::Number => "ERROR not a number up to 4294967295",
+            Mistake::Hex => "ERROR not pairs of hex digits",
+            Mistake::Size => "ERROR a size is at most 66400",
+            Mistake::Outside => "ERROR outside the lent bytes",
+            Mistake::Room => "ERROR a room is at most 70",
+        };
+        Told::Said(text, None)
+    }
+}
+
+impl<T: Into<Told>, E: Into<Told>> From<Result<T, E>> for Told {
+    fn from(told: Result<T, E>) -> Told {
+        match told {
+            Ok(value) => value.into(),
+            Err(error) => error.into(),
+        }
+    }
+}
+
+pub fn tell<P: Print>(out: &mut Output<P>, told: impl Into<Told>) -> io::Result<()> {
+    let value = match told.into() {
+        Told::Said(text, value) => {
+            out.text(text.as_bytes())?;
+            value
+        }
+        Told::Refused(refusal, record) => {
+            out.text(b"REFUSED")?;
+            out.number(refusal.number() as usize)?;
+            out.text(b" ")?;
+            out.text(refusal.name().as_bytes())?;
+            record
+        }
     };
-    worded(text)
+    if let Some(value) = value {
+        out.number(value)?;
+    }
+    out.end()
 }
 
 // DONE and bytes.
-pub fn hex(rt: &impl Print, out: &mut [u8; ROOM], s: &[u8]) -> io::Result<()>
-    ensures ok { OnOk result (out.new ≡ line_of out.old (DONE_TEXT ++ spaced s.now)) }
-    ensures err { OnErr result (Unwritten (got out.old 0) ((DONE_TEXT ++ spaced s.now) ++ (NEWLINE ∷ [])) out.new) }
+pub fn hex<P: Print>(out: &mut Output<P>, s: &[u8]) -> io::Result<()>
+    ensures { Ends result out.old (DONE ++ spaced s.now) out.new }
 {
-    let n = text(rt, out, 0, b"DONE")?;
-    let n = spaced(rt, out, n, s)?;
-    end(rt, out, n)
+    out.text(b"DONE")?;
+    out.spaced(s)?;
+    out.end()
 }

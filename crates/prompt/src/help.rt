@@ -1,8 +1,8 @@
 // The words that a line may begin with. Where a write fails, its error is handed back, and the text ends there.
-use print::gather::{ROOM, end, text};
+use print::gather::Output;
 use std::io;
 
-const WORDS: [u8; 790] = *b"size LEN             the current length, 0 to 66400\n\
+const WORDS: &str = "size LEN             the current length, 0 to 66400\n\
     poke AT HEX          stores bytes at AT\n\
     peek AT COUNT        the bytes at AT\n\
     sum                  FNV-1a, 64 bits, over the lent bytes\n\
@@ -21,7 +21,7 @@ const WORDS: [u8; 790] = *b"size LEN             the current length, 0 to 66400\
     help                 these words\n\
     DONE";
 
-pub fn help(rt: &impl Print, out: &mut [u8; ROOM]) -> io::Result<()> {
-    let n = text(rt, out, 0, &WORDS)?;
-    end(rt, out, n)
+pub fn help<P: Print>(out: &mut Output<P>) -> io::Result<()> {
+    out.text(WORDS.as_bytes())?;
+    out.end()
 }

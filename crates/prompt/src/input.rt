@@ -1,139 +1,108 @@
 // Standard input, line by line. What was read and not yet taken stands in a buffer.
-ghost use Rattle.std.specs.Prelude.{◌≡◌, ◌-◌, ◌≤◌, length, take, drop, IfOk};
-ghost use Rattle.prompt.specs.Input.{LINE, Within};
+ghost use Rattle.std.specs.Prelude.{◌≡◌, ◌-◌, ◌≤◌, length, take, drop};
+ghost use Rattle.prompt.specs.Input.{LINE};
 
+use crate::answers::Mistake;
 use std::io;
 use std::io::Read;
 
 // The buffer: a line of this many bytes or more does not fit it.
 pub const LINE: usize = 8192;
 
-// The line that was taken last, and what stands behind it.
+// Where a line stands in the buffer, without its newline.
 #[derive(Clone, Copy)]
+pub struct Line {
+    from: usize,
+    end: usize,
+    ghost ordered: { from ≤ end },
+    ghost within: { end ≤ LINE },
+}
+
+// What was read, of which the bytes from `next` to `to` are not taken yet.
 pub struct Input {
-    // No line was left.
-    pub over: bool,
-    // The line did not fit; its bytes are gone.
-    pub long: bool,
-    // The line, without its newline.
-    pub from: usize,
-    pub end: usize,
-    // What is not taken yet.
-    pub next: usize,
-    pub to: usize,
+    held: [u8; LINE],
+    next: usize,
+    to: usize,
+    ghost ordered: { next ≤ to },
+    ghost within: { to ≤ LINE },
 }
 
 impl Input {
-    pub fn none() -> Input
-        ensures { Within result }
-    {
+    pub fn new() -> Input {
         Input {
-            over: false,
-            long: false,
-            from: 0,
-            end: 0,
+            held: [0; LINE],
             next: 0,
             to: 0,
         }
     }
-}
 
-// The bytes of from .. to are moved to the front.
-fn shift(lines: &mut [u8], from: usize, to: usize)
-    requires from_le_to { from ≤ to }
-    requires to_in_bounds { to ≤ length lines.old }
-    ensures { take (to - from) lines.new ≡ take (to - from) (drop from lines.old) }
-{
-    if from == 0 {
-        return;
+    // The bytes of a line.
+    pub fn text(&self, line: Line) -> &[u8]
+        ensures { length result.now ≤ LINE }
+    {
+        &self.held[line.from..line.end]
     }
-    let kept = to - from;
-    let mut i = 0;
-    while i < kept {
-        lines[i] = lines[from + i];
-        i += 1;
+
+    // The line up to the next newline is taken, where one was read.
+    fn take(&mut self) -> Option<Line> {
+        let from = self.next;
+        let n = self.held[from..self.to].iter().position(|&b| b == b'\n')?;
+        self.next = from + n + 1;
+        Some(Line {
+            from,
+            end: from + n,
+        })
     }
-}
 
-// One read, to what is behind the first `kept` bytes. It hands back where the bytes end; where the read fails, its error,
-// and the first `kept` bytes stand all the same.
-fn refill(stdin: &mut impl Read, lines: &mut [u8], kept: usize) -> io::Result<usize>
-    requires { kept ≤ length lines.old }
-    ensures end { IfOk result (λ n. (kept ≤ n) × (n ≤ length lines.old)) }
-    ensures bytes { take kept lines.new ≡ take kept lines.old }
-{
-    let got = stdin.read(&mut lines[kept..])?;
-    Ok(kept + got)
-}
-
-// Where the first newline of from .. to stands, or `to` where there is none.
-fn newline(lines: &[u8], from: usize, to: usize) -> usize
-    requires from_le_to { from ≤ to }
-    requires to_in_bounds { to ≤ length lines.now }
-    ensures { (from ≤ result) × (result ≤ to) }
-{
-    match lines[from..to].iter().position(|b| *b == b'\n') {
-        Some(n) => from + n,
-        None => to,
+    // One read, behind what is not taken yet, which is moved to the front. It hands back whether bytes came; where the
+    // read fails, its error, and what is not taken stands all the same.
+    fn refill(&mut self, stdin: &mut impl Read) -> io::Result<bool>
+        ensures { take (self.old.to - self.old.next) self.new.held ≡ take (self.old.to - self.old.next) (drop self.old.next self.old.held) }
+    {
+        self.held.copy_within(self.next..self.to, 0);
+        self.to -= self.next;
+        self.next = 0;
+        let n = stdin.read(&mut self.held[self.to..])?;
+        self.to += n;
+        Ok(0 < n)
     }
-}
 
-// A full buffer with no newline in it: what it holds of the line is dropped.
-fn kept_from(from: usize, to: usize) -> usize
-    requires { from ≤ to }
-    ensures { (from ≤ result) × (result ≤ to) }
-{
-    if to - from == LINE { to } else { from }
-}
-
-// The input has ended behind the first `to` bytes of the buffer: they are the last line, if there is one.
-fn last(long: bool, to: usize) -> Input
-    requires { to ≤ LINE }
-    ensures { Within result }
-{
-    Input {
-        over: (to == 0) & !long,
-        long,
-        from: 0,
-        end: to,
-        next: to,
-        to,
-    }
-}
-
-// The next line is taken; the last one may lack its newline. Where a read fails, its error is handed back, and no line is
-// taken: what the buffer holds is the beginning of one.
-pub fn next(stdin: &mut impl Read, lines: &mut [u8; LINE], input: Input) -> io::Result<Input>
-    requires { Within input }
-    ensures { IfOk result Within }
-{
-    let mut from = input.next;
-    let mut to = input.to;
-    let mut long = false;
-    // A proved loop has to end, and nothing says that a line does: no run uses up this count.
-    let mut turns = u64::MAX;
-    while 0 < turns {
-        let end = newline(lines, from, to);
-        if end < to {
-            return Ok(Input {
-                over: false,
-                long,
-                from,
-                end,
-                next: end + 1,
-                to,
-            });
+    // The input has ended: what is not taken yet is the last line, if there is one.
+    fn last(&mut self) -> Option<Line> {
+        if self.next == self.to {
+            return None;
         }
-        long = long | (to - from == LINE);
-        from = kept_from(from, to);
-        shift(lines, from, to);
-        let kept = to - from;
-        from = 0;
-        to = refill(stdin, lines, kept)?;
-        if to == kept {
-            return Ok(last(long, to));
-        }
-        turns -= 1;
+        let line = Line {
+            from: self.next,
+            end: self.to,
+        };
+        self.next = self.to;
+        Some(line)
     }
-    Ok(last(long, to))
+
+    // The next line is taken; the last one may lack its newline. One that does not fit is a mistake, and its bytes are
+    // gone. Where a read fails, its error is handed back, and no line is taken: what the buffer holds is the beginning of
+    // one.
+    pub fn next(&mut self, stdin: &mut impl Read) -> io::Result<Option<Result<Line, Mistake>>> {
+        let mut long = false;
+        // A proved loop has to end, and nothing says that a line does: no run uses up this count.
+        for _ in 0..u64::MAX {
+            if let Some(line) = self.take() {
+                return Ok(Some(if long { Err(Mistake::Long) } else { Ok(line) }));
+            }
+            // A full buffer with no newline in it: what it holds of the line is dropped.
+            if self.to - self.next == LINE {
+                long = true;
+                self.next = self.to;
+            }
+            if !self.refill(stdin)? {
+                break;
+            }
+        }
+        if long {
+            self.next = self.to;
+            return Ok(Some(Err(Mistake::Long)));
+        }
+        Ok(self.last().map(Ok))
+    }
 }

@@ -6,40 +6,28 @@ ghost use Rattle.table.specs.Network.{shape};
 use bits::choice::choose;
 use bits::flags::{BROADCASTS, POR, RECON, RI, TA, TMA};
 use bits::way::Way;
-use print::gather::{ROOM, columns, end, number, text};
+use print::gather::Output;
 use registers::regs::Regs;
 use std::io;
-use table::network::{HEADER, LOST, phase, row_from, rows, wide};
-use words::words::part;
+use table::network::{HEADER, LOST, PASS, phase, row_from, rows, wide};
 
-// The name of a flag that is set, by its place here.
-fn flag(
-    rt: &impl Print,
-    out: &mut [u8; ROOM],
-    n: usize,
-    set: bool,
-    place: usize,
-) -> io::Result<usize> {
-    if !set {
-        return Ok(n);
+// The names of the flags that are set. TTA and TRI are a chaining row's: in another no end waits to be cleared.
+fn flags<P: Print>(out: &mut Output<P>, g: Regs) -> io::Result<()> {
+    let flags = [
+        (g.status & RI != 0, " RI"),
+        (g.status & POR != 0, " POR"),
+        (g.status & RECON != 0, " RECON"),
+        (g.status & TMA != 0, " TMA"),
+        (g.status & TA != 0, " TA"),
+        (g.transmit.uncleared(), " TTA"),
+        (g.receive.uncleared(), " TRI"),
+    ];
+    for (set, name) in flags {
+        if set {
+            out.text(name.as_bytes())?;
+        }
     }
-    text(
-        rt,
-        out,
-        n,
-        part(b" RI\n POR\n RECON\n TMA\n TA\n TTA\n TRI", b'\n', place),
-    )
-}
-
-// TTA and TRI are a chaining row's: in another no end waits to be cleared.
-fn flags(rt: &impl Print, out: &mut [u8; ROOM], n: usize, g: Regs) -> io::Result<usize> {
-    let n = flag(rt, out, n, g.status & RI != 0, 0)?;
-    let n = flag(rt, out, n, g.status & POR != 0, 1)?;
-    let n = flag(rt, out, n, g.status & RECON != 0, 2)?;
-    let n = flag(rt, out, n, g.status & TMA != 0, 3)?;
-    let n = flag(rt, out, n, g.status & TA != 0, 4)?;
-    let n = flag(rt, out, n, g.transmit.uncleared(), 5)?;
-    flag(rt, out, n, g.receive.uncleared(), 6)
+    Ok(())
 }
 
 // The digit of a page, in the low bits of a waiting entry.
@@ -62,70 +50,62 @@ fn cells(g: Regs) -> [u8; 14] {
 }
 
 // B behind a page that waits to be filled, where broadcasts are wanted.
-fn wanted(rt: &impl Print, out: &mut [u8; ROOM], n: usize, entry: u8) -> io::Result<usize> {
+fn wanted<P: Print>(out: &mut Output<P>, entry: u8) -> io::Result<()> {
     if entry & BROADCASTS == 0 {
-        return Ok(n);
+        return Ok(());
     }
-    text(rt, out, n, b"B")
+    out.text(b"B")
 }
 
 // The rest of the column RX: a second page behind the first.
-fn receives(rt: &impl Print, out: &mut [u8; ROOM], n: usize, g: Regs) -> io::Result<usize> {
+fn receives<P: Print>(out: &mut Output<P>, g: Regs) -> io::Result<()> {
     if !g.receive.two(Way::Receive) {
-        let mut cells = *b"  ";
-        cells[0] = choose(g.receive.oldest & BROADCASTS != 0, b'B', b' ');
-        return text(rt, out, n, &cells);
+        return out.text(&[choose(g.receive.oldest & BROADCASTS != 0, b'B', b' '), b' ']);
     }
-    let n = wanted(rt, out, n, g.receive.oldest)?;
-    let mut cells = *b", ";
-    cells[1] = page(g.receive.second);
-    let n = text(rt, out, n, &cells)?;
-    wanted(rt, out, n, g.receive.second)
+    wanted(out, g.receive.oldest)?;
+    out.text(&[b',', page(g.receive.second)])?;
+    wanted(out, g.receive.second)
 }
 
-fn row(rt: &impl Print, out: &mut [u8; ROOM], k: usize, g: Regs) -> io::Result<()> {
-    let n = columns(rt, out, 0, k, wide(g.id), wide(g.nid))?;
-    let n = text(rt, out, n, &cells(g))?;
-    let n = receives(rt, out, n, g)?;
-    let n = flags(rt, out, n, g)?;
-    end(rt, out, n)
+fn row<P: Print>(out: &mut Output<P>, k: usize, g: Regs) -> io::Result<()> {
+    out.columns(k, wide(g.id), wide(g.nid))?;
+    out.text(&cells(g))?;
+    receives(out, g)?;
+    flags(out, g)?;
+    out.end()
 }
 
 // The phase, and who holds the token in it.
-fn holder(rt: &impl Print, out: &mut [u8; ROOM], phase: u8, row: usize) -> io::Result<usize> {
-    let n = text(
-        rt,
-        out,
-        0,
-        part(b"LOST, nobody\nPASS, row\nTAKEN, row", b'\n', wide(phase)),
-    )?;
-    if phase == LOST {
-        return Ok(n);
+fn holder<P: Print>(out: &mut Output<P>, phase: u8, row: usize) -> io::Result<()> {
+    match phase {
+        LOST => return out.text(b"LOST, nobody"),
+        PASS => out.text(b"PASS, row")?,
+        _ => out.text(b"TAKEN, row")?,
     }
-    number(rt, out, n, row)
+    out.number(row)
 }
 
 // A line for each of the first n rows.
-fn table(rt: &impl Print, out: &mut [u8; ROOM], net: &[u8], n: usize) -> io::Result<()>
+fn table<P: Print>(out: &mut Output<P>, net: &[u8], n: usize) -> io::Result<()>
     requires { row_start net.now n ≤ length net.now }
 {
     let mut a = HEADER;
     for k in 0..n {
         let card = row_from(net, a);
-        row(rt, out, k, card::row::load(card))?;
+        row(out, k, card::row::load(card))?;
         a += card.len();
     }
     Ok(())
 }
 
 // The rows of a network that SHAPE does not refuse.
-pub fn show(rt: &impl Print, out: &mut [u8; ROOM], net: &[u8]) -> io::Result<()>
+pub fn show<P: Print>(out: &mut Output<P>, net: &[u8]) -> io::Result<()>
     requires { shape net.now ≡ true }
 {
-    let n = text(rt, out, 0, b" ROW  ID NID  LINE  TX   RX  FLAGS")?;
-    end(rt, out, n)?;
-    table(rt, out, net, rows(net))?;
-    let n = holder(rt, out, phase(net), table::network::holder(net))?;
-    let n = text(rt, out, n, b" holds\nDONE")?;
-    end(rt, out, n)
+    out.text(b" ROW  ID NID  LINE  TX   RX  FLAGS")?;
+    out.end()?;
+    table(out, net, rows(net))?;
+    holder(out, phase(net), table::network::holder(net))?;
+    out.text(b" holds\nDONE")?;
+    out.end()
 }
