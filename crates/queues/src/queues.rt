@@ -10,7 +10,7 @@ use bits::way::Way;
 pub(crate) const KEPT: u8 = 1 << 7;
 
 // Bytes 13, 16 and 18 of a row, or 14, 17 and 19: the oldest that waits, the second, and how many ends are not cleared.
-#[derive(Clone, Copy)]
+#[derive(Clone, Copy, Debug, PartialEq, Eq)]
 pub struct Queue {
     pub oldest: u8,
     pub second: u8,
@@ -18,7 +18,7 @@ pub struct Queue {
 }
 
 // A side of a card: its queue, and the status that it shares with the other side.
-#[derive(Clone, Copy)]
+#[derive(Clone, Copy, Debug, PartialEq, Eq)]
 pub struct Side {
     pub status: u8,
     pub queue: Queue,
@@ -121,69 +121,59 @@ impl Side {
 
     // An Enable with its page, and of a receive whether broadcasts are wanted.
     #[tactic(auto, unfolding(crate::specs::Queues::enabled))]
-    pub fn enabled(self, way: Way, chaining: bool, entry: u8) -> Side
+    pub fn enabled(mut self, way: Way, chaining: bool, entry: u8) -> Side
         ensures { result ≡ enabled way chaining entry self }
     {
-        let mut s = self;
         if chaining & self.waiting(way) {
-            let second = entry | second_flag(way);
-            s.queue.second = second;
-            return s;
+            self.queue.second = entry | second_flag(way);
+            return self;
         }
-        s.status = self.status & !self.queue.lowered(way);
-        s.queue.oldest = entry;
-        s
+        self.status &= !self.queue.lowered(way);
+        self.queue.oldest = entry;
+        self
     }
 
     // A Disable marks the oldest that is not marked yet.
     #[tactic(auto, unfolding(crate::specs::Queues::disabled))]
-    pub fn disabled(self, way: Way) -> Side
+    pub fn disabled(mut self, way: Way) -> Side
         ensures { result ≡ disabled way self }
     {
-        let mut s = self;
         if !self.waiting(way) {
-            return s;
+            return self;
         }
         if self.queue.two(way) & (self.queue.oldest & CANCEL != 0) {
-            let second = self.queue.second | CANCEL;
-            s.queue.second = second;
-            return s;
+            self.queue.second |= CANCEL;
+            return self;
         }
-        let oldest = self.queue.oldest | CANCEL;
-        s.queue.oldest = oldest;
-        s
+        self.queue.oldest |= CANCEL;
+        self
     }
 
     // The oldest goes, and the second moves up with its mark.
-    fn gone(self, way: Way) -> Side
+    fn gone(mut self, way: Way) -> Side
         ensures { result ≡ gone way self }
     {
-        let mut s = self;
         if self.queue.two(way) {
-            let up = self.queue.second & !second_flag(way);
-            s.queue.oldest = up;
-            s.queue.second = 0;
-            return s;
+            self.queue.oldest = self.queue.second & !second_flag(way);
+            self.queue.second = 0;
+            return self;
         }
-        s.status = self.status | free_flag(way);
-        s.queue.oldest = 0;
-        s
+        self.status |= free_flag(way);
+        self.queue.oldest = 0;
+        self
     }
 
     // An end shows in the status, or is stored behind one that does.
-    fn completed(self, way: Way, chaining: bool, acknowledged: bool) -> Side
+    fn completed(mut self, way: Way, chaining: bool, acknowledged: bool) -> Side
         ensures { result ≡ completed way chaining acknowledged self }
     {
-        let mut s = self;
         if chaining & self.queue.uncleared() {
-            let kept = stored(way, acknowledged);
-            s.queue.done = kept;
-            return s;
+            self.queue.done = stored(way, acknowledged);
+            return self;
         }
-        s.status = shows(way, acknowledged, self.status);
-        let done = choose(chaining, 1, self.queue.done);
-        s.queue.done = done;
-        s
+        self.status = shows(way, acknowledged, self.status);
+        self.queue.done = choose(chaining, 1, self.queue.done);
+        self
     }
 
     // The oldest ends, acknowledged or not.
@@ -194,13 +184,11 @@ impl Side {
         self.completed(way, chaining, acknowledged).gone(way)
     }
 
-    fn second_cancelled(self) -> Side
+    fn second_cancelled(mut self) -> Side
         ensures { result ≡ second_cancelled self }
     {
-        let mut s = self;
-        let second = choose(self.queue.second & CANCEL == 0, self.queue.second, 0);
-        s.queue.second = second;
-        s
+        self.queue.second = choose(self.queue.second & CANCEL == 0, self.queue.second, 0);
+        self
     }
 
     // The cancels that were asked take effect; they are no ends.
@@ -208,25 +196,22 @@ impl Side {
     pub fn cancelled(self, way: Way) -> Side
         ensures { result ≡ cancelled way self }
     {
-        let s = self.second_cancelled();
+        let left = self.second_cancelled();
         if self.queue.oldest & CANCEL == 0 {
-            return s;
+            return left;
         }
-        s.gone(way)
+        left.gone(way)
     }
 
     // Clear Transmit Interrupt, or Clear Receive Interrupt: the end that is stored is shown, or none.
     #[tactic(auto, unfolding(crate::specs::Queues::cleared))]
-    pub fn cleared(self, way: Way) -> Side
+    pub fn cleared(mut self, way: Way) -> Side
         ensures { result ≡ cleared way self }
     {
-        let mut s = self;
-        if !self.queue.uncleared() {
-            return s;
+        if self.queue.uncleared() {
+            self.status = shows(way, self.queue.done & KEPT != 0, self.status);
+            self.queue.done = choose(self.queue.done & 2 != 0, 1, 0);
         }
-        s.status = shows(way, self.queue.done & KEPT != 0, self.status);
-        let left = choose(self.queue.done & 2 != 0, 1, 0);
-        s.queue.done = left;
-        s
+        self
     }
 }
