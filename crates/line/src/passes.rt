@@ -8,9 +8,11 @@ ghost use Rattle.line.specs.Traffic.{happens, happened, takes, carried_row, carr
 use bits::way::Way;
 use card::packets::Packet;
 use registers::regs::Regs;
-use table::network::{HEADER, row_end, rows};
+use table::network::rows;
+use table::walk::each_row_mut;
 
 // What reaches every row at once.
+// Kept: data and no closure, since `Traffic.happens` and the laws over it name the three.
 #[derive(Clone, Copy, Debug, PartialEq, Eq)]
 pub(crate) enum Event {
     Recovery,
@@ -50,49 +52,51 @@ pub(crate) fn happen(net: &mut [u8], event: Event)
     ensures bytes { net.new ≡ happened net.old event }
     ensures rows { (shape net.new ≡ true) × (rows net.new ≡ rows net.old) }
 {
-    let mut a = HEADER;
-    for k in 0..rows(net) {
-        let e = row_end(net, a);
-        happen_row(&mut net[a..e], k, event);
-        a = e;
-    }
+    let n = rows(net);
+    each_row_mut(net, n, |k, row| happen_row(row, k, event));
 }
 
-// Row k takes a packet that row h sends to it. A broadcast is sent to no one row, and each row but h that wants it takes it.
-fn takes(g: Regs, k: usize, h: usize, to: Option<usize>) -> bool
-    ensures { (n : ℕ) → k < n → result ≡ takes h (unwrap_or to n) (is_none to) k g }
-{
-    match to {
-        Some(t) => k == t,
-        None => (k != h) & g.takes_broadcasts(),
-    }
+// A packet that row h sent to row `to`; a broadcast is sent to no one row.
+#[derive(Drop)]
+pub(crate) struct SentPacket {
+    pub h: usize,
+    pub to: Option<usize>,
+    pub packet: Packet,
 }
 
-// A packet that row k takes is stored in its receive page, where that can be.
-#[tactic(auto, using(card::proofs::Rows::Sizes::whole_registers, crate::proofs::Change::Carry::room, registers::proofs::Values::Ends::receive_page_small))]
-fn carry_row(row: &mut [u8], k: usize, h: usize, to: Option<usize>, packet: Packet)
-    requires whole { Whole row.old }
-    requires row_value { well_formed row.old ≡ true }
-    ensures { (n : ℕ) → k < n → row.new ≡ carried_row h (unwrap_or to n) (is_none to) packet k row.old }
-{
-    let g = card::row::load(row);
-    if takes(g, k, h, to) & g.waiting(Way::Receive) & packet.shape.storable(g) {
-        card::packets::store_packet(row, g.page(Way::Receive), packet);
-        let g = card::row::load(row).received();
-        card::row::store(row, g);
+impl SentPacket {
+    // Row k takes it if it is sent to row k, or is a broadcast of another row that it wants.
+    fn takes(&self, k: usize, g: Regs) -> bool
+        ensures { (n : ℕ) → k < n → result ≡ takes self.now.h (unwrap_or self.now.to n) (is_none self.now.to) k g }
+    {
+        match self.to {
+            Some(t) => k == t,
+            None => (k != self.h) & g.takes_broadcasts(),
+        }
     }
-}
 
-// The packet of row h reaches each row that takes it.
-#[tactic(auto, using(crate::proofs::Rooms::rooms))]
-pub(crate) fn carry(net: &mut [u8], h: usize, to: Option<usize>, packet: Packet)
-    requires { shape net.old ≡ true }
-    ensures { net.new ≡ carried net.old h (unwrap_or to (rows net.old)) (is_none to) packet }
-{
-    let mut a = HEADER;
-    for k in 0..rows(net) {
-        let e = row_end(net, a);
-        carry_row(&mut net[a..e], k, h, to, packet);
-        a = e;
+    // It is stored in the receive page of row k, if the row takes it and where that can be.
+    #[tactic(auto, using(card::proofs::Rows::Sizes::whole_registers, crate::proofs::Change::Carry::room, registers::proofs::Values::Ends::receive_page_small))]
+    fn carry_row(&self, row: &mut [u8], k: usize)
+        requires whole { Whole row.old }
+        requires row_value { well_formed row.old ≡ true }
+        ensures { (n : ℕ) → k < n → row.new ≡ carried_row self.now.h (unwrap_or self.now.to n) (is_none self.now.to) self.now.packet k row.old }
+    {
+        let g = card::row::load(row);
+        if self.takes(k, g) & g.waiting(Way::Receive) & self.packet.shape.storable(g) {
+            card::packets::store_packet(row, g.page(Way::Receive), self.packet);
+            let g = card::row::load(row).received();
+            card::row::store(row, g);
+        }
+    }
+
+    // It reaches each row.
+    #[tactic(auto, using(crate::proofs::Rooms::rooms))]
+    pub(crate) fn carry(&self, net: &mut [u8])
+        requires { shape net.old ≡ true }
+        ensures { net.new ≡ carried net.old self.now.h (unwrap_or self.now.to (rows net.old)) (is_none self.now.to) self.now.packet }
+    {
+        let n = rows(net);
+        each_row_mut(net, n, |k, row| self.carry_row(row, k));
     }
 }

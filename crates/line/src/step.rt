@@ -41,6 +41,7 @@ impl Answer {
     }
 }
 
+// LOST: the on-line row of highest ID, if anybody is on line, holds in PASS.
 #[tactic(auto, using(crate::proofs::Rooms::rooms, crate::proofs::Steps::Holders::highest_found), unfolding(crate::specs::Step::lost_turn))]
 fn lost(net: &mut [u8]) -> Answer
     requires { shape net.old ≡ true }
@@ -51,12 +52,14 @@ fn lost(net: &mut [u8]) -> Answer
     let Some(top) = top_id(net, n) else {
         return Answer::Quiet;
     };
+    // The highest ID on line is that of a row.
     let first = node_of(net, top, n, n).unwrap();
     happen(net, Event::Recovery);
     turn(net, PASS, first as u8);
     Answer::Recovered(first)
 }
 
+// PASS: an invitation goes to the holder's NID, unless fault 3 destroys it.
 #[tactic(auto, using(crate::proofs::Rooms::rooms), unfolding(crate::specs::Step::pass_turn, crate::specs::Traffic::on_row))]
 fn pass(net: &mut [u8], fault: usize) -> Answer
     requires { HasRow net.old (holder net.old) }
@@ -83,6 +86,7 @@ fn pass(net: &mut [u8], fault: usize) -> Answer
 }
 
 // A step of a network that SHAPE does not refuse. It serves whoever has tested SHAPE already.
+// Kept: a fault is a number, since any may be passed; one above 3 is VALUE (`Step.step_refusals`).
 #[tactic(auto, using(crate::proofs::Rooms::rooms, crate::proofs::Steps::Stepped::held_row), unfolding(crate::specs::Step::step_turn))]
 pub fn step_on(net: &mut [u8], fault: usize) -> Answer
     requires { shape net.old ≡ true }

@@ -7,7 +7,7 @@ ghost use Rattle.table.specs.Rows.{row_at};
 ghost use Rattle.table.specs.Network.{rows, shape};
 ghost use Rattle.line.specs.Traffic.{HasRow, stamped_net, went_out, asked, broadcast_turn, packet_turn, enquiry_turn, try_turn, taken_turn};
 
-use crate::passes::{Event, carry, happen};
+use crate::passes::{Event, SentPacket, happen};
 use bits::way::Way;
 use card::packets::Shape;
 use table::network::{node_of, put_regs, regs_at, row_at, row_end, row_start, rows};
@@ -69,7 +69,12 @@ impl Sending {
         let packet = card::packets::packet_at(row_at(net, self.h), self.page);
         happen(net, Event::Message(self.h, false));
         if self.fault != 1 {
-            carry(net, self.h, to, packet);
+            SentPacket {
+                h: self.h,
+                to,
+                packet,
+            }
+            .carry(net);
         }
     }
 
@@ -80,7 +85,7 @@ impl Sending {
         card::packets::page_shape(row_at(net, self.h), self.page)
     }
 
-    // The enquiry was answered by row t, which can receive.
+    // Row t has answered the enquiry with an ACK: the packet goes to it. Its own ACK is lost with fault 2.
     #[tactic(auto, using(crate::proofs::Rooms::rooms), unfolding(crate::specs::Traffic::packet_turn, crate::specs::Traffic::on_row))]
     fn deliver(self, net: &mut [u8], t: usize) -> Outcome
         requires row { HasRow net.old self.h }
