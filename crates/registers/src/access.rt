@@ -3,7 +3,7 @@
 ghost use Rattle.std.specs.Prelude.{◌≡◌};
 ghost use Rattle.registers.specs.Registers.{sub, pointer, stepped, read_fetches, write_fetches, fetched, seventh, shown, read_value, after_read, changes_chaining, rechained, configured, commanded, writes_id, seventh_written, after_write};
 
-use crate::regs::{AFTER_RESET, Regs};
+use crate::regs::{AFTER_RESET, Later, Regs};
 use bits::choice::choose;
 use bits::flags::{
     AUTO_INC, CCHEN, EXCNAK, POR, RDDATA, RECON, RESET, RI, SHOWN_RI, SHOWN_TA, TA, TMA, TRI, TTA,
@@ -16,7 +16,7 @@ impl Regs {
     pub fn pointer(self) -> usize
         ensures { result ≡ pointer self }
     {
-        256 * ((self.high % 4) as usize) + self.low as usize
+        u16::from_be_bytes([self.high % 4, self.low]) as usize
     }
 
     // The pointer after an access of register 4.
@@ -28,10 +28,11 @@ impl Regs {
             return self;
         }
         let risen = (self.pointer() + 1) % 1024;
-        let mut g = self;
-        g.high = (risen / 256) as u8;
-        g.low = (risen % 256) as u8;
-        g
+        Regs {
+            high: (risen / 256) as u8,
+            low: (risen % 256) as u8,
+            ..self
+        }
     }
 
     // C-13: "Only a pointer load or an incremented read fetches", a write of 3 or a read of 4 with AUTO-INC.
@@ -48,13 +49,13 @@ impl Regs {
     }
 
     // Where an access fetches, the fetched byte is `ram`, the RAM byte at the pointer that it leaves.
-    pub fn fetched(self, fetches: bool, ram: u8) -> Regs
+    pub fn fetched(mut self, fetches: bool, ram: u8) -> Regs
         ensures { result ≡ fetched fetches ram self }
     {
-        let byte = choose(fetches, ram, self.later.fetched);
-        let mut g = self;
-        g.later.fetched = byte;
-        g
+        if fetches {
+            self.later.fetched = ram;
+        }
+        self
     }
 
     // What register 7 is, by sub-address: 00 tentative ID, 01 node ID, 10 setup.
@@ -67,12 +68,11 @@ impl Regs {
     fn seventh(self) -> u8
         ensures { result ≡ seventh self }
     {
-        let sub = self.sub_address();
-        choose(
-            sub == 0,
-            self.tentative,
-            choose(sub == 1, self.id, self.setup),
-        )
+        match self.sub_address() {
+            0 => self.tentative,
+            1 => self.id,
+            _ => self.setup,
+        }
     }
 
     // The status as register 0 shows it.
@@ -89,6 +89,7 @@ impl Regs {
     }
 
     // What a read of a register gives.
+    // Kept: a register is asked by its address in the data sheet (000, "Registers"), which is what every caller has.
     #[tactic(auto, unfolding(crate::specs::Registers::read_value))]
     pub fn read_value(self, register: usize) -> u8
         ensures { result ≡ read_value self register }
@@ -110,11 +111,10 @@ impl Regs {
         ensures { result ≡ after_read self register }
     {
         match register {
-            1 => {
-                let mut g = self;
-                g.diagnostic = self.diagnostic & EXCNAK;
-                g
-            }
+            1 => Regs {
+                diagnostic: self.diagnostic & EXCNAK,
+                ..self
+            },
             4 => self.stepped(),
             _ => self,
         }
@@ -131,10 +131,11 @@ impl Regs {
         ensures { result ≡ rechained self value }
     {
         if self.changes_chaining(value) {
-            let mut g = self;
-            g.transmit = Queue::none();
-            g.receive = Queue::none();
-            return g;
+            return Regs {
+                transmit: Queue::none(),
+                receive: Queue::none(),
+                ..self
+            };
         }
         self
     }
@@ -145,21 +146,26 @@ impl Regs {
         ensures { result ≡ configured self value }
     {
         if value & RESET == 0 {
-            let mut g = self.rechained(value);
-            g.configuration = value;
-            return g;
+            return Regs {
+                configuration: value,
+                ..self.rechained(value)
+            };
         }
-        let mut g = self;
-        g.configuration = value;
-        g.status = AFTER_RESET;
-        g.diagnostic = 0;
-        g.mask = 0;
-        g.transmit = Queue::none();
-        g.receive = Queue::none();
-        g.long = 0;
-        g.later.naklow = 0;
-        g.later.nakhigh = 0;
-        g
+        Regs {
+            configuration: value,
+            status: AFTER_RESET,
+            diagnostic: 0,
+            mask: 0,
+            transmit: Queue::none(),
+            receive: Queue::none(),
+            long: 0,
+            later: Later {
+                naklow: 0,
+                nakhigh: 0,
+                ..self.later
+            },
+            ..self
+        }
     }
 
     // A command's effect; a byte that is no command has none.
@@ -167,19 +173,15 @@ impl Regs {
     fn commanded(self, command: Option<Command>) -> Regs
         ensures { result ≡ commanded self command }
     {
-        let mut g = self;
         match command {
-            None => g,
+            None => self,
             Some(Command::Disable(way)) => self.disabled(way),
             Some(Command::Enable(way, entry)) => self.enabled(way, entry),
-            Some(Command::LongPackets(on)) => {
-                g.long = on;
-                g
-            }
-            Some(Command::ClearFlags(por, recon)) => {
-                g.status = self.status & !choose(recon, RECON, 0) & !choose(por, POR, 0);
-                g.naks_dropped(por)
-            }
+            Some(Command::LongPackets(long)) => Regs { long, ..self },
+            Some(Command::ClearFlags(por, recon)) => Regs {
+                status: self.status & !choose(recon, RECON, 0) & !choose(por, POR, 0),
+                ..self.naks_dropped(por)
+            },
             Some(Command::Clear(way)) => self.cleared(way),
         }
     }
@@ -193,21 +195,15 @@ impl Regs {
     }
 
     #[tactic(auto, unfolding(crate::specs::Registers::seventh_written))]
-    fn seventh_written(self, value: u8) -> Regs
+    fn seventh_written(mut self, value: u8) -> Regs
         ensures { result ≡ seventh_written self value }
     {
-        let sub = self.sub_address();
-        let mut g = self;
-        if sub == 0 {
-            g.tentative = value;
-            return g;
+        match self.sub_address() {
+            0 => self.tentative = value,
+            1 => self.id = value,
+            _ => self.setup = value,
         }
-        if sub == 1 {
-            g.id = value;
-            return g;
-        }
-        g.setup = value;
-        g
+        self
     }
 
     // The registers after a write that is not refused.
@@ -215,26 +211,25 @@ impl Regs {
     pub fn after_write(self, register: usize, value: u8) -> Regs
         ensures { result ≡ after_write self register value }
     {
-        let mut g = self;
         match register {
-            0 => {
-                g.mask = value;
-                g
-            }
+            0 => Regs {
+                mask: value,
+                ..self
+            },
             1 => self.commanded(decode(value)),
-            2 => {
-                g.mode = value;
-                g
-            }
-            3 => {
-                g.high = self.mode % 4;
-                g.low = value;
-                g
-            }
+            2 => Regs {
+                mode: value,
+                ..self
+            },
+            3 => Regs {
+                high: self.mode % 4,
+                low: value,
+                ..self
+            },
             4 => self.stepped(),
             6 => self.configured(value),
             7 => self.seventh_written(value),
-            _ => g,
+            _ => self,
         }
     }
 }

@@ -13,7 +13,7 @@ impl Regs {
     pub fn burst(mut self) -> Regs
         ensures { result ≡ burst self }
     {
-        self.diagnostic = self.diagnostic | MYRECON;
+        self.diagnostic |= MYRECON;
         self
     }
 
@@ -22,44 +22,42 @@ impl Regs {
     pub fn recovered(self) -> Regs
         ensures { result ≡ recovered self }
     {
-        // The lap starts at the row's own ID, which it does not answer itself.
-        let first = self.id;
-        let mut g = self;
-        g.status = choose(self.awake(), self.status | RECON, self.status);
-        g.nid = choose(self.on_line(), first, self.nid);
-        g
+        Regs {
+            status: choose(self.awake(), self.status | RECON, self.status),
+            // The lap starts at the row's own ID, which it does not answer itself.
+            nid: choose(self.on_line(), self.id, self.nid),
+            ..self
+        }
     }
 
     // Another card's message is heard: an invitation (`token`), or another one.
     #[tactic(auto, unfolding(crate::specs::Events::heard))]
-    pub fn heard(self, token: bool) -> Regs
+    pub fn heard(mut self, token: bool) -> Regs
         ensures { result ≡ heard self token }
     {
         let awake = self.awake();
-        let mut g = self;
-        let active = choose(awake, self.diagnostic | RCVACT, self.diagnostic);
-        g.diagnostic = choose(awake & token, active | TOKEN, active);
-        g
+        if awake {
+            self.diagnostic |= RCVACT;
+        }
+        if awake & token {
+            self.diagnostic |= TOKEN;
+        }
+        self
     }
 
     // An invitation to `number` is answered; `taker`: by this card.
     #[tactic(auto, unfolding(crate::specs::Events::answered))]
-    pub fn answered(self, number: u8, taker: bool) -> Regs
+    pub fn answered(mut self, number: u8, taker: bool) -> Regs
         ensures { result ≡ answered self number taker }
     {
         let awake = self.awake();
-        let mut g = self;
-        let twin = choose(
-            awake & (self.id == number),
-            self.diagnostic | DUPID,
-            self.diagnostic,
-        );
-        g.diagnostic = choose(
-            awake & !taker & (self.tentative == number),
-            twin | TENTID,
-            twin,
-        );
-        g
+        if awake & (self.id == number) {
+            self.diagnostic |= DUPID;
+        }
+        if awake & !taker & (self.tentative == number) {
+            self.diagnostic |= TENTID;
+        }
+        self
     }
 
     // Nobody took the invitation: the next one goes to the next ID.
@@ -67,10 +65,10 @@ impl Regs {
     pub fn risen_nid(self) -> Regs
         ensures { result ≡ risen_nid self }
     {
-        let next = (self.nid as u16 + 1) % 256;
-        let mut g = self;
-        g.nid = next as u8;
-        g
+        Regs {
+            nid: self.nid.wrapping_add(1),
+            ..self
+        }
     }
 
     // The cancels that were asked take effect.

@@ -13,10 +13,7 @@ const NAK_LIMIT: u8 = 128;
 fn up_to_limit(naks: usize) -> u8
     ensures { result ≡ up_to_limit naks }
 {
-    if naks < NAK_LIMIT as usize {
-        return naks as u8;
-    }
-    NAK_LIMIT
+    naks.min(NAK_LIMIT as usize) as u8
 }
 
 impl Later {
@@ -24,7 +21,7 @@ impl Later {
     fn naks(self) -> usize
         ensures { result ≡ low_first self.naklow self.nakhigh }
     {
-        self.naklow as usize + 256 * (self.nakhigh as usize)
+        u16::from_le_bytes([self.naklow, self.nakhigh]) as usize
     }
 }
 
@@ -34,24 +31,33 @@ impl Regs {
         ensures { result ≡ nak_counted self }
     {
         let naks = up_to_limit(self.later.naks() + 1);
-        let mut g = self;
-        g.diagnostic = choose(naks == NAK_LIMIT, self.diagnostic | EXCNAK, self.diagnostic);
-        g.later.naklow = naks;
-        g.later.nakhigh = 0;
-        g
+        Regs {
+            diagnostic: choose(naks == NAK_LIMIT, self.diagnostic | EXCNAK, self.diagnostic),
+            later: Later {
+                naklow: naks,
+                nakhigh: 0,
+                ..self.later
+            },
+            ..self
+        }
     }
 
     // Where `drop`, nothing is counted any more, and EXCNAK is clear.
     pub(crate) fn naks_dropped(self, drop: bool) -> Regs
         ensures { result ≡ naks_dropped drop self }
     {
-        let low = choose(drop, 0, self.later.naklow);
-        let high = choose(drop, 0, self.later.nakhigh);
-        let mut g = self;
-        g.diagnostic = choose(drop, self.diagnostic & !EXCNAK, self.diagnostic);
-        g.later.naklow = low;
-        g.later.nakhigh = high;
-        g
+        if !drop {
+            return self;
+        }
+        Regs {
+            diagnostic: self.diagnostic & !EXCNAK,
+            later: Later {
+                naklow: 0,
+                nakhigh: 0,
+                ..self.later
+            },
+            ..self
+        }
     }
 
     // The count agrees with TA and with EXCNAK.

@@ -27,10 +27,7 @@ impl Regs {
     fn takes(self, command: Option<Command>) -> bool
         ensures { result ≡ not (illegal (chaining self) command) }
     {
-        match command {
-            Some(command) => !command.illegal(self.chaining()),
-            None => false,
-        }
+        command.is_some_and(|command| !command.illegal(self.chaining()))
     }
 
     // VALUE: a bit that the register has no name for, or a byte that is no command.

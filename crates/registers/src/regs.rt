@@ -15,7 +15,7 @@ use queues::queues::Queue;
 pub(crate) const AFTER_RESET: u8 = RI | POR | TA;
 
 // Bytes 32 to 34 of a row: the byte that register 4 reads (C-13), and the count of NAKs (C-16).
-#[derive(Clone, Copy)]
+#[derive(Clone, Copy, Debug, Default, PartialEq, Eq)]
 pub struct Later {
     pub fetched: u8,
     pub naklow: u8,
@@ -23,7 +23,7 @@ pub struct Later {
 }
 
 // Bytes 2 to 19 and 32 to 34 of a row; a queue has three of them.
-#[derive(Clone, Copy)]
+#[derive(Clone, Copy, Debug, PartialEq, Eq)]
 pub struct Regs {
     pub id: u8,
     pub status: u8,
@@ -64,7 +64,6 @@ impl Regs {
     pub fn fit(self) -> bool
         ensures { result ≡ fit self }
     {
-        let chaining = self.chaining();
         let named = (self.status & !STATUS == 0)
             & (self.diagnostic & !DIAGNOSTIC == 0)
             & (self.mask & !MASK == 0)
@@ -72,25 +71,13 @@ impl Regs {
             & (self.high & !LOW2 == 0)
             & (self.mode & !MODE == 0)
             & (self.long & !1 == 0);
-        named
-            & self.naks_fit()
-            & self
-                .side(Way::Transmit)
-                .fit(Way::Transmit, chaining, self.long)
-            & self
-                .side(Way::Receive)
-                .fit(Way::Receive, chaining, self.long)
+        named & self.naks_fit() & self.side_fits(Way::Transmit) & self.side_fits(Way::Receive)
     }
 
     #[tactic(auto, unfolding(crate::specs::Registers::hardware_reset))]
     pub fn hardware_reset() -> Regs
         ensures { result ≡ hardware_reset }
     {
-        let later = Later {
-            fetched: 0,
-            naklow: 0,
-            nakhigh: 0,
-        };
         Regs {
             id: 0,
             status: AFTER_RESET,
@@ -106,7 +93,7 @@ impl Regs {
             transmit: Queue::none(),
             receive: Queue::none(),
             long: 0,
-            later,
+            later: Later::default(),
         }
     }
 

@@ -19,40 +19,25 @@ impl Regs {
     pub(crate) fn side(self, way: Way) -> Side
         ensures { result ≡ side_of way self }
     {
-        let status = self.status;
-        match way {
-            Way::Transmit => {
-                let queue = self.transmit;
-                Side { status, queue }
-            }
-            Way::Receive => {
-                let queue = self.receive;
-                Side { status, queue }
-            }
+        Side {
+            status: self.status,
+            queue: match way {
+                Way::Transmit => self.transmit,
+                Way::Receive => self.receive,
+            },
         }
     }
 
     // The card with a side as it has become.
-    pub(crate) fn with_side(self, way: Way, s: Side) -> Regs
-        ensures { result ≡ with_side way s self }
+    pub(crate) fn with_side(mut self, way: Way, side: Side) -> Regs
+        ensures { result ≡ with_side way side self }
     {
-        let q = s.queue;
-        let mut g = self;
-        g.status = s.status;
+        self.status = side.status;
         match way {
-            Way::Transmit => {
-                g.transmit.oldest = q.oldest;
-                g.transmit.second = q.second;
-                g.transmit.done = q.done;
-                g
-            }
-            Way::Receive => {
-                g.receive.oldest = q.oldest;
-                g.receive.second = q.second;
-                g.receive.done = q.done;
-                g
-            }
+            Way::Transmit => self.transmit = side.queue,
+            Way::Receive => self.receive = side.queue,
         }
+        self
     }
 
     pub(crate) fn enabled(self, way: Way, entry: u8) -> Regs
@@ -94,5 +79,12 @@ impl Regs {
         ensures { result ≡ queues.full way (chaining self) (side_of way self) }
     {
         self.side(way).full(way, self.chaining())
+    }
+
+    // No unnamed bit is set in this side's bytes, and they agree with each other.
+    pub(crate) fn side_fits(self, way: Way) -> bool
+        ensures { result ≡ queues.fit way (chaining self) self.long (side_of way self) }
+    {
+        self.side(way).fit(way, self.chaining(), self.long)
     }
 }
