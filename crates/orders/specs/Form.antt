@@ -1,6 +1,7 @@
 -- Document 01, "Order forms and the lap": the order form.
 -- Assumes nothing.
 use Rattle.std.specs.Prelude.{Bool, true, not, ◌&&◌, List, [], ◌∷◌, ℕ, ◌+◌, ◌*◌, ◌/◌, ◌%◌, eqb, leb, ltb, length, get_or, take, drop}
+use Rattle.std.specs.List.{list_all}
 use Rattle.bits.specs.Words.{pick, all}
 use Rattle.table.specs.Folds.{every, some}
 use Rattle.table.specs.Network.{row_limit}
@@ -38,9 +39,8 @@ LONG = 2
 abbrev pub printable : ℕ → Bool
 printable x = leb 0x20 x && leb x 0x7e
 
-unfoldable pub printables : List ℕ → Bool
-printables [] = true
-printables (x ∷ l) = printable x && printables l
+abbrev pub printables : List ℕ → Bool
+printables l = list_all printable l
 
 -- ---- an order as it has to be
 -- "1 to 60 records of 16 bytes"
@@ -76,9 +76,8 @@ order_fits order =
     length_fits order && every (λ k. record_fits (record_at order k)) (records order) && every (λ k. not (repeats order k)) (records order)
 
 -- "name without trailing spaces"
-unfoldable pub spaces : List ℕ → Bool
-spaces [] = true
-spaces (x ∷ l) = eqb x 0x20 && spaces l
+abbrev pub spaces : List ℕ → Bool
+spaces l = list_all (λ x. eqb x 0x20) l
 
 unfoldable pub trimmed : List ℕ → List ℕ
 trimmed [] = []

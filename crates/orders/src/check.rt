@@ -1,8 +1,8 @@
 // C-12: what is wrong with an order, and with which record.
-ghost use Rattle.std.specs.Prelude.{◌≡◌, length};
+ghost use Rattle.std.specs.Prelude.{None, ◌≡◌, ◌+◌, ◌*◌, ◌≤◌, length};
 ghost use Rattle.told.specs.Numbers.{told};
 ghost use Rattle.told.specs.Refusals.{number};
-ghost use Rattle.orders.specs.Form.{record_bytes, length_fits};
+ghost use Rattle.orders.specs.Form.{record_bytes, length_fits, marked, name_fits, repeats};
 ghost use Rattle.orders.specs.Check.{form_refusals, record_number, verdict, checked};
 
 use crate::form::{
@@ -18,6 +18,18 @@ pub struct Bad {
     pub record: Option<usize>,
 }
 
+// A refusal that names no record.
+impl From<Refusal> for Bad {
+    ghost from_gives = { λ refusal bad. (bad.refusal ≡ refusal) × (bad.record ≡ None) };
+
+    fn from(refusal: Refusal) -> Bad {
+        Bad {
+            refusal,
+            record: None,
+        }
+    }
+}
+
 #[tactic(auto, unfolding(crate::specs::Form::length_fits))]
 fn length_fits(order: &[u8]) -> bool
     ensures { result ≡ length_fits order.now }
@@ -26,47 +38,62 @@ fn length_fits(order: &[u8]) -> bool
     (order.len() % RECORD == 0) & (0 < n) & (n <= ROWS)
 }
 
+fn marked(form: &[u8]) -> bool
+    requires { length form.now ≡ record_bytes }
+    ensures { result ≡ marked form.now }
+{
+    form.starts_with(&RECORD_MARK)
+}
+
+// The name prints, and its first character is not a space.
+#[tactic(auto, using(crate::proofs::Forms::Names::all_of_name))]
+fn name_fits(form: &[u8]) -> bool
+    requires { length form.now ≡ record_bytes }
+    ensures { result ≡ name_fits form.now }
+{
+    (form[4] != SPACE) & printable(&form[4..])
+}
+
 // A record by itself.
-#[tactic(auto, using(crate::proofs::Forms::Names::mid_name, crate::proofs::Checks::Tests::form_is, told::proofs::Told::Results::handed_number, told::proofs::Told::Results::stands))]
+#[tactic(auto, using(crate::proofs::Checks::Tests::above, told::proofs::Told::Results::handed_number, told::proofs::Told::Results::stands))]
 fn check_form(form: &[u8]) -> Result<(), Refusal>
     requires { length form.now ≡ record_bytes }
     ensures { number result ≡ told (form_refusals form.now) }
 {
-    let marked = form.starts_with(&RECORD_MARK);
-    let named = (form[4] != SPACE) & printable(&form[4..RECORD]);
-    Refusal::Mark.when(!marked)?;
+    Refusal::Mark.when(!marked(form))?;
     Refusal::OrderId.when(form[2] < 1)?;
     Refusal::Flags.when(RECEIVE + LONG < form[3])?;
-    Refusal::Name.when(!named)
+    Refusal::Name.when(!name_fits(form))
 }
 
-// Record k: of two records with one ID the later is bad, so TWICE asks those before it.
+// A record before record k has its ID: of two records with one ID the later is bad.
+fn repeats(order: &[u8], k: usize) -> bool
+    requires { record_bytes * k + record_bytes ≤ length order.now }
+    ensures { result ≡ repeats order.now k }
+{
+    record_of(order, id_at(order, k), k).is_some()
+}
+
+// Record k of an order.
+#[tactic(auto, using(told::proofs::Told::Results::handed_number, told::proofs::Told::Results::stands), unfolding(crate::specs::Check::record_number))]
 fn check_record(order: &[u8], k: usize) -> Result<(), Refusal>
     requires { record_bytes * k + record_bytes ≤ length order.now }
     ensures { number result ≡ record_number order.now k }
 {
     check_form(record_at(order, k))?;
-    Refusal::Twice.when(record_of(order, id_at(order, k), k).is_some())
+    Refusal::Twice.when(repeats(order, k))
 }
 
 // Any bytes of any length may be asked about.
-#[tactic(auto, using(table::proofs::Folds::seek_none, crate::proofs::Forms::Records::records_within, crate::proofs::Checks::Told::tells_length, crate::proofs::Checks::Told::tells_good))]
 pub fn check(order: &[u8]) -> Result<(), Bad>
     ensures { verdict result ≡ checked order.now }
 {
-    if !length_fits(order) {
-        return Err(Bad {
-            refusal: Refusal::Length,
-            record: None,
-        });
-    }
+    Refusal::Length.when(!length_fits(order))?;
     for k in 0..records(order) {
-        if let Err(refusal) = check_record(order, k) {
-            return Err(Bad {
-                refusal,
-                record: Some(k),
-            });
-        }
+        check_record(order, k).map_err(|refusal| Bad {
+            refusal,
+            record: Some(k),
+        })?;
     }
     Ok(())
 }

@@ -2,7 +2,7 @@
 ghost use Rattle.std.specs.Prelude.{◌≡◌, ◌+◌, ◌*◌, ◌≤◌, ◌<◌, eqb, length};
 ghost use Rattle.places.specs.Places.{onward};
 ghost use Rattle.table.specs.Folds.{seek, below};
-ghost use Rattle.orders.specs.Form.{record_bytes, records, record_at, id_at, flags_of, printables, name_from, name_at};
+ghost use Rattle.orders.specs.Form.{record_bytes, records, record_at, id_at, flags_of, printables, trimmed, name_from, name_at};
 
 pub const RECORD: usize = 16;
 
@@ -51,22 +51,13 @@ pub fn flags_at(order: &[u8], k: usize) -> u8
 }
 
 // Each byte is a printing character, 20 to 7E.
-#[tactic(auto, using(crate::proofs::Forms::Names::printables_here, crate::proofs::Forms::Names::printables_not, crate::proofs::Forms::Names::printables_end))]
 pub fn printable(name: &[u8]) -> bool
     ensures { result ≡ printables name.now }
 {
-    let mut i = 0;
-    while i < name.len() {
-        if (name[i] < SPACE) | (0x7e < name[i]) {
-            return false;
-        }
-        i += 1;
-    }
-    true
+    name.iter().all(|b| (SPACE..=0x7e).contains(b))
 }
 
 // The first record with this ID among the first n.
-#[tactic(auto, using(table::proofs::Folds::seek_none, table::proofs::Folds::seek_here, table::proofs::Folds::seek_more))]
 pub fn record_of(order: &[u8], id: u8, n: usize) -> Option<usize>
     requires { record_bytes * n ≤ length order.now }
     ensures { result ≡ below n (seek (λ k. eqb (id_at order.now k) id) n) }
@@ -74,22 +65,26 @@ pub fn record_of(order: &[u8], id: u8, n: usize) -> Option<usize>
     (0..n).find(|&k| id_at(order, k) == id)
 }
 
-// The station name of record k without its trailing spaces; nothing where there is no such record.
-#[tactic(auto, using(crate::proofs::Forms::Records::records_within, crate::proofs::Forms::Names::trim_none, crate::proofs::Forms::Names::name_ends, crate::proofs::Forms::Names::name_shorter, crate::proofs::Forms::Names::name_not, crate::proofs::Forms::Names::name_is), unfolding(places::specs::Places::onward))]
+// A name without its trailing spaces.
+#[tactic(auto, using(crate::proofs::Forms::Names::trim_to, crate::proofs::Forms::Names::trim_none))]
+fn trimmed(name: &[u8]) -> &[u8]
+    ensures bytes { result.now ≡ trimmed name.now }
+    ensures place { result.ref_ptr ≡ name.entry.ref_ptr }
+{
+    match name.iter().rposition(|&b| b != SPACE) {
+        Some(last) => &name[..=last],
+        None => &name[..0],
+    }
+}
+
+// The station name of record k; nothing where there is no such record.
+#[tactic(auto, using(crate::proofs::Forms::Records::records_within, crate::proofs::Forms::Names::all_of_name), unfolding(places::specs::Places::onward, crate::specs::Form::name_at))]
 pub fn name_at(order: &[u8], k: usize) -> &[u8]
     ensures bytes { result.now ≡ name_at order.now k }
     ensures place { k < records order.now → result.ref_ptr ≡ onward order.entry.ref_ptr (name_from k) }
 {
     if records(order) <= k {
-        return &order[0..0];
+        return &order[..0];
     }
-    let form = record_at(order, k);
-    let mut end = RECORD;
-    while 4 < end {
-        if form[end - 1] != SPACE {
-            return &form[4..end];
-        }
-        end -= 1;
-    }
-    &form[4..4]
+    trimmed(&record_at(order, k)[4..])
 }

@@ -1,41 +1,27 @@
 -- The tests of a record, as the code makes them.
 -- Assumes nothing.
-use mathlib.Core.Path.{◌≡◌, refl, sym, ◌∙◌, ap}
-use mathlib.Core.Bool.{Bool, true, false, not, ◌&&◌}
+use mathlib.Core.Path.{◌≡◌, refl, ap, sym, ◌∙◌}
+use mathlib.Core.Bool.{Bool, not}
 use mathlib.Core.List.{List}
 use mathlib.Core.Logic.{⊎_elim}
 use Prim.Native.Nat.{ℕ}
 use lib.Dec.{eqb, leb, ltb}
-use lib.ListN.{get_or}
-use borrow.Author.Tests.{ltb-true, ltb-false}
-use Rattle.bits.proofs.Words.Bools.{cases}
-use Rattle.table.specs.Folds.{seek}
+use borrow.Author.Tests.{ltb-true, ltb-false, le-leb, lt-leb}
+use Rattle.std.proofs.Common.{Option}
+use Rattle.std.specs.Option.{is_some}
+use Rattle.bits.proofs.Words.Bools.{cases, pick_of}
+use Rattle.table.specs.Folds.{some, seek, below}
 use Rattle.table.proofs.Folds.{some_found, some_missed}
-use Rattle.told.specs.Numbers.{DONE, MARK, ORDER_ID, FLAGS, NAME, TWICE, refuse, told}
-use Rattle.orders.specs.Form.{record_at, id_of, flags_of, name_of, printables, marked, id_at, repeats}
-use Rattle.orders.specs.Check.{form_refusals, record_number}
-use Rattle.orders.proofs.Forms.Names.{leb_not}
-
-not_not : (b : Bool) → not (not b) ≡ b
-not_not true = refl
-not_not false = refl
+use Rattle.orders.specs.Form.{id_at, repeats}
 
 pub above : (a b : ℕ) → ltb a b ≡ not (leb b a)
-above a b = sym (ap not (leb_not a b) ∙ not_not (ltb a b))
+above a b = ⊎_elim (λ t. rw t (sym (ap not (lt-leb b a (ltb-true a b t))))) (λ t. rw t (sym (ap not (le-leb b a (ltb-false a b t))))) (cases (ltb a b))
 
--- the search for the ID of record k among the records before it tells whether one has it
-repeats_is : (order : List ℕ) (k i : ℕ) → i ≡ id_at order k → (j : ℕ) → j ≡ seek (λ m. eqb (id_at order m) i) k → ltb j k ≡ repeats order k
+-- a search for the ID of record k among the records before it tells whether one has it
+pub repeats_is : (order : List ℕ) (k i : ℕ) (o : Option ℕ) → i ≡ id_at order k → o ≡ below k (seek (λ j. eqb (id_at order j) i) k) → is_some o ≡ repeats order k
 unfolding repeats
-repeats_is order k i a j e =
-    ⊎_elim (λ t. t ∙ sym (some_found _ k j (rw a at e) (ltb-true j k t))) (λ t. t ∙ sym (some_missed _ k j (rw a at e) (ltb-false j k t))) (cases (ltb j k))
-
--- the refusals of a record by itself one after the other: p is whether its name prints
-pub form_is : (r : List ℕ) (p : Bool) → p ≡ printables (name_of r) → (a : ℕ) → a ≡ refuse DONE MARK (not (marked r)) → (b : ℕ) → b ≡ refuse a ORDER_ID (ltb (id_of r) 1)
-    → (c : ℕ) → c ≡ refuse b FLAGS (ltb 3 (flags_of r)) → refuse c NAME (not (not (eqb (get_or r 4 0) 0x20) && p)) ≡ told (form_refusals r)
-form_is r p q a ea b eb c ec = rw (ec, eb, ea, q, above (id_of r) 1, above 3 (flags_of r))
-
--- and of record k, whose ID i is found at j
-pub number_is : (order : List ℕ) (k : ℕ) (r : List ℕ) → r ≡ record_at order k → (m : ℕ) → m ≡ told (form_refusals r) → (i : ℕ) → i ≡ id_at order k
-    → (j : ℕ) → j ≡ seek (λ m. eqb (id_at order m) i) k → refuse m TWICE (ltb j k) ≡ record_number order k
-unfolding record_number
-number_is order k r f m g i a j e = rw (g, f, repeats_is order k i a j e)
+repeats_is order k i o e d =
+    let f : ℕ → Bool = λ j. eqb (id_at order j) (id_at order k) in
+    ap is_some (rw e at d)
+    ∙ pick_of (λ (o : Option ℕ). is_some o ≡ some f k) (ltb (seek f k) k) (λ t. sym (some_found f k _ refl (ltb-true _ k t)))
+    (λ t. sym (some_missed f k _ refl (ltb-false _ k t)))

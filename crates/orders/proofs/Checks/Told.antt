@@ -3,24 +3,45 @@
 use mathlib.Core.Path.{◌≡◌, sym, ◌∙◌, ap}
 use mathlib.Core.Bool.{true, false, not}
 use mathlib.Core.List.{List}
+use mathlib.Core.Logic.{⊎_elim}
 use Prim.Native.Nat.{ℕ, ◌+◌, ◌≤◌, ◌<◌}
 use native.Mathlib.Omega.{arith}
 use lib.Dec.{eqb, ltb}
 use borrow.Author.Tests.{ne_eqb, eq-eqb, eqb-true, eqb-false, ltb-true, ltb-false, lt-ltb, le-ltb, not-true, not-false}
-use Rattle.told.specs.Numbers.{DONE, LENGTH}
-use Rattle.bits.proofs.Words.Bools.{pick_of}
+use Rattle.std.proofs.Common.{Option, Some, None, Result, Ok, Err}
+use Rattle.std.specs.Result.{IsErrAnd}
+use Rattle.told.specs.declared.refusals.Refusal as kinds
+use Rattle.told.specs.Refusals.{number_of}
+use Rattle.told.specs.Numbers.{DONE, LENGTH, refuse}
+use Rattle.told.proofs.Told.Smallest.{refuse_held, refuse_passed}
+use Rattle.bits.proofs.Words.Bools.{cases, pick_of}
 use Rattle.table.specs.Folds.{seek}
 use Rattle.table.proofs.Folds.{seek_more}
+use Rattle.orders.specs.declared.check.Bad.{Bad}
 use Rattle.orders.specs.Check.{Checked}
 use Rattle.orders.specs.Form.{records, length_fits}
-use Rattle.orders.specs.Check.{record_number, refused, first_bad, tells, checked}
+use Rattle.orders.specs.Check.{record_number, refused, first_bad, verdict, tells, checked}
 use Rattle.orders.proofs.Checks.Found.{first_here, first_none, first_refused, first_below}
+
+-- ---- what `?` hands on: a refusal that names no record, and one that may
+pub verdict_none : (r : Result Unit Bad) (e : kinds.Refusal) → IsErrAnd r (λ b. (b.refusal ≡ e) × (b.«record» ≡ None)) → verdict r ≡ tells (number_of e) 0
+verdict_none (Ok u) e h = absurd h
+verdict_none (Err b) e h = rw (h.0, h.1)
+
+pub verdict_some : (r : Result Unit Bad) (b : Bad) (n k : ℕ) → IsErrAnd r (λ y. y ≡ b) → n ≡ number_of b.refusal → b.«record» ≡ Some k → verdict r ≡ tells n (k + 1)
+verdict_some (Ok u) b n k h p q = absurd h
+verdict_some (Err y) b n k h p q = rw (h, q, p)
 
 module _ (order : List ℕ) where
   -- ---- as the code goes: the search finds none of the first k records
-  pub tells_length : length_fits order ≡ false → tells LENGTH 0 ≡ checked order
+  pub tells_length : (n : ℕ) → (n ≡ DONE → ⊥) → n ≡ refuse DONE LENGTH (not (length_fits order)) → tells n 0 ≡ checked order
   unfolding checked
-  tells_length l = rw l
+  tells_length n u h =
+      ⊎_elim (λ t. absurd (u (h ∙ refuse_passed DONE LENGTH (not (length_fits order)) (ap not t))))
+      (λ f. ap (λ (m : ℕ). tells m 0) (h ∙ refuse_held LENGTH (not (length_fits order)) (ap not f)) ∙ rw f) (cases (length_fits order))
+
+  pub sized : DONE ≡ refuse DONE LENGTH (not (length_fits order)) → length_fits order ≡ true
+  sized h = ⊎_elim (λ t. t) (λ f. absurd (omega (arith, h ∙ refuse_held LENGTH (not (length_fits order)) (ap not f)))) (cases (length_fits order))
 
   module _ (l : length_fits order ≡ true) (k : ℕ) (s : seek (refused order) k ≡ k) where
     pub tells_bad : k < records order → (m : ℕ) → m ≡ record_number order k → (m ≡ DONE → ⊥) → tells m (k + 1) ≡ checked order

@@ -1,9 +1,12 @@
-use Rattle.std.proofs.Common.{◌∙◌, eqb, eq-eqb, sym}
-use Rattle.table.proofs.Folds.{seek_here}
+use Rattle.std.proofs.Common.{Bool, eqb, true, false, ◌≡◌, ℕ, rules}
+use Rattle.std.proofs.lemmas.Iterator.{first_from_Range}
 use Rattle.orders.specs.Form.{id_at}
+use Rattle.orders.proofs.Forms.Found.{below_found}
+use borrow.Author.Tests.{tests}
 use Rattle.orders.proofs.form.record_of.Goals as goal
 
-pub returns-then-id_at-id : goal.returns-then-id_at-id
-returns-then-id_at-id c =
-    let has = eq-eqb _ _ (sym c.id_at.ensures ∙ c.if-id_at-id.true) in
-    sym (seek_here (λ j. eqb (id_at c.args.order.now j) c.args.id) _ _ c.loop-k.invariant.passed has c.loop-k-test.true)
+pub returns : goal.returns
+returns c =
+    let has : ℕ → Bool = λ k. eqb (id_at c.args.order.now k) c.args.id in
+    below_found has c.args.n _
+    (first_from_Range _ _ _ _ (λ k. has k ≡ true) (λ k. has k ≡ false) c.find.ensures.ran (λ x q k. search (rules, tests)) (λ x q k. search (rules, tests)))
