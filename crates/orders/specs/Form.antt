@@ -1,6 +1,6 @@
 -- Document 01, "Order forms and the lap": the order form.
 -- Assumes nothing.
-use Rattle.std.specs.Prelude.{Bool, true, not, ◌&&◌, List, [], ◌∷◌, ℕ, ◌+◌, ◌*◌, ◌/◌, ◌%◌, eqb, leb, ltb, length, get_or, take, drop}
+use Rattle.std.specs.Prelude.{Bool, not, ◌&&◌, List, [], ◌∷◌, ℕ, ◌+◌, ◌*◌, ◌/◌, ◌%◌, eqb, leb, ltb, length, get_or, take, drop}
 use Rattle.std.specs.List.{list_all}
 use Rattle.bits.specs.Words.{pick, all}
 use Rattle.table.specs.Folds.{every, some}

@@ -14,8 +14,8 @@ use told::refusals::Refusal;
 // What is wrong, and the first record with which it is, from 0, where one is named.
 #[derive(Clone, Copy, Debug, PartialEq, Eq)]
 pub struct Bad {
-    pub refusal: Refusal,
     pub record: Option<usize>,
+    pub refusal: Refusal,
 }
 
 // A refusal that names no record.
@@ -24,8 +24,8 @@ impl From<Refusal> for Bad {
 
     fn from(refusal: Refusal) -> Bad {
         Bad {
-            refusal,
             record: None,
+            refusal,
         }
     }
 }
@@ -91,8 +91,8 @@ pub fn check(order: &[u8]) -> Result<(), Bad>
     Refusal::Length.when(!length_fits(order))?;
     for k in 0..records(order) {
         check_record(order, k).map_err(|refusal| Bad {
-            refusal,
             record: Some(k),
+            refusal,
         })?;
     }
     Ok(())

@@ -1,7 +1,7 @@
 use Rattle.std.proofs.Common.{◌≡◌, Some, ◌∙◌, sym, arith, rules}
 use borrow.Author.Tests.{eqb-false}
 use Rattle.table.proofs.Folds.{seek_none}
-use Rattle.told.specs.Numbers.{DONE, LENGTH}
+use Rattle.told.specs.Numbers.{DONE}
 use Rattle.told.specs.Refusals.{number, number_of}
 use Rattle.told.proofs.Told.Results.{not_done}
 use Rattle.orders.specs.Check.{refused}
