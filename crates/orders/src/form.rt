@@ -36,6 +36,7 @@ pub(crate) fn record_at(order: &[u8], k: usize) -> &[u8]
     &order[a..a + RECORD]
 }
 
+// Kept: an ID and flags, as document 01 names them, one index each; one function of the offset would read no plainer.
 pub fn id_at(order: &[u8], k: usize) -> u8
     requires { record_bytes * k + record_bytes ≤ length order.now }
     ensures { result ≡ id_at order.now k }
