@@ -2,6 +2,7 @@
 pub mod Placed
 pub mod Settled
 pub mod Fresh
+pub mod Handed
 pub mod ShapeSettled
 pub mod ShapeCalls
 pub mod RamsKept

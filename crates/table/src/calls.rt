@@ -15,6 +15,7 @@ use card::row::ROW_BYTES;
 use told::refusals::Refusal;
 
 // SHAPE and ROW: the refusals of every call to a row.
+#[tactic(auto, using(told::proofs::Told::Results::handed_number, told::proofs::Told::Results::stands, crate::proofs::Access::Handed::least_behind), unfolding(crate::specs::Calls::place_number, crate::specs::Calls::place_refusals))]
 pub fn place(net: &[u8], row: usize) -> Result<(), Refusal>
     ensures { number result ≡ place_number net.now row }
 {
@@ -23,6 +24,7 @@ pub fn place(net: &[u8], row: usize) -> Result<(), Refusal>
 }
 
 // And what the card refuses of a read.
+#[tactic(auto, using(told::proofs::Told::Results::handed_number, told::proofs::Told::Results::first_stands, told::proofs::Told::Results::then_asked, crate::proofs::Access::Handed::room_behind), unfolding(crate::specs::Calls::net_read_number, crate::specs::Calls::place_number))]
 fn may_read(net: &[u8], row: usize, register: usize) -> Result<(), Refusal>
     ensures { number result ≡ net_read_number net.now row register }
 {
@@ -31,6 +33,7 @@ fn may_read(net: &[u8], row: usize, register: usize) -> Result<(), Refusal>
 }
 
 // A register of a row is read.
+#[tactic(auto, using(told::proofs::Told::Results::handed_number, told::proofs::Told::Results::refused_keeps, told::proofs::Told::Results::done_goes, crate::proofs::Access::Handed::read_behind, crate::proofs::Rows::Walks::walked_room, crate::proofs::Rows::Walks::row_sized), unfolding(crate::specs::Calls::net_reading, crate::specs::Calls::net_after_read))]
 pub fn read(net: &mut [u8], row: usize, register: usize) -> Result<u8, Refusal>
     ensures answer { reading result ≡ net_reading net.old row register }
     ensures bytes { net.new ≡ net_after_read net.old row register }
@@ -82,6 +85,7 @@ pub fn write_on(net: &mut [u8], row: usize, register: usize, value: u8) -> Resul
 }
 
 // A register of a row is written.
+#[tactic(auto, using(told::proofs::Told::Results::handed_number, told::proofs::Told::Results::refused_keeps, told::proofs::Told::Results::done_goes, told::proofs::Told::Results::first_stands, crate::proofs::Access::Handed::shape_behind, crate::proofs::Access::Handed::row_behind), unfolding(crate::specs::Calls::net_write_number, crate::specs::Calls::net_after_write, crate::specs::Calls::place_number))]
 pub fn write(net: &mut [u8], row: usize, register: usize, value: u8) -> Result<(), Refusal>
     ensures number { number result ≡ net_write_number net.old row register value }
     ensures bytes { net.new ≡ net_after_write net.old row register value }
@@ -91,6 +95,7 @@ pub fn write(net: &mut [u8], row: usize, register: usize, value: u8) -> Result<(
 }
 
 // A row's hardware reset.
+#[tactic(auto, using(told::proofs::Told::Results::handed_number, told::proofs::Told::Results::refused_keeps, told::proofs::Told::Results::done_goes, crate::proofs::Access::Handed::room_behind, crate::proofs::Rows::Walks::walked_room, crate::proofs::Rows::Walks::row_sized), unfolding(crate::specs::Calls::net_after_reset))]
 pub fn reset(net: &mut [u8], row: usize) -> Result<(), Refusal>
     ensures number { number result ≡ place_number net.old row }
     ensures bytes { net.new ≡ net_after_reset net.old row }
@@ -105,6 +110,7 @@ pub fn reset(net: &mut [u8], row: usize) -> Result<(), Refusal>
 }
 
 // SHAPE, ROW and NOTREADY.
+#[tactic(auto, using(told::proofs::Told::Results::handed_number, told::proofs::Told::Results::first_stands, told::proofs::Told::Results::then_asked, crate::proofs::Access::Handed::room_behind), unfolding(crate::specs::Calls::timer_number, crate::specs::Calls::place_number, crate::specs::Network::on_line_at))]
 fn may_expire(net: &[u8], row: usize) -> Result<(), Refusal>
     ensures { number result ≡ timer_number net.now row }
 {
@@ -113,6 +119,7 @@ fn may_expire(net: &[u8], row: usize) -> Result<(), Refusal>
 }
 
 // A row's lost-token timer expires.
+#[tactic(auto, using(told::proofs::Told::Results::handed_number, told::proofs::Told::Results::refused_keeps, told::proofs::Told::Results::done_goes, crate::proofs::Access::Handed::timer_behind), unfolding(crate::specs::Calls::net_after_timer))]
 pub fn timer(net: &mut [u8], row: usize) -> Result<(), Refusal>
     ensures number { number result ≡ timer_number net.old row }
     ensures bytes { net.new ≡ net_after_timer net.old row }
@@ -125,6 +132,7 @@ pub fn timer(net: &mut [u8], row: usize) -> Result<(), Refusal>
 }
 
 // Whether the interrupt of a row is active.
+#[tactic(auto, using(crate::proofs::Access::Handed::room_behind), unfolding(crate::specs::Calls::net_interrupt))]
 pub fn interrupt(net: &[u8], row: usize) -> Result<bool, Refusal>
     ensures { interrupting result ≡ net_interrupt net.now row }
 {
@@ -144,6 +152,7 @@ pub fn page_data(net: &[u8], row: usize, page: usize) -> &[u8]
 }
 
 // Whether the reader's data may be asked for.
+#[tactic(auto, using(told::proofs::Told::Results::handed_number, told::proofs::Told::Results::first_stands, told::proofs::Told::Results::then_asked, crate::proofs::Access::Handed::room_behind), unfolding(crate::specs::Calls::net_data_number, crate::specs::Calls::place_number))]
 pub fn may_read_data(net: &[u8], row: usize, page: usize) -> Result<(), Refusal>
     ensures { number result ≡ net_data_number net.now row page }
 {
@@ -152,6 +161,7 @@ pub fn may_read_data(net: &[u8], row: usize, page: usize) -> Result<(), Refusal>
 }
 
 // A network of n rows is made in the bytes lent, whatever they were.
+#[tactic(auto, using(told::proofs::Told::Results::handed_number, told::proofs::Told::Results::refused_keeps, told::proofs::Told::Results::done_goes), unfolding(crate::specs::Calls::net_after_fresh))]
 pub fn fresh(net: &mut [u8], n: usize) -> Result<(), Refusal>
     ensures number { number result ≡ fresh_number net.old n }
     ensures bytes { net.new ≡ net_after_fresh net.old n }
@@ -175,6 +185,7 @@ pub fn exact_length(n: usize) -> usize
 }
 
 // VALUE and ROOM.
+#[tactic(auto, using(told::proofs::Told::Results::handed_number, told::proofs::Told::Results::stands, crate::proofs::Access::Handed::few_behind), unfolding(crate::specs::Calls::fresh_number, crate::specs::Calls::fresh_refusals))]
 fn may_make(net: &[u8], n: usize) -> Result<(), Refusal>
     ensures { number result ≡ fresh_number net.now n }
 {

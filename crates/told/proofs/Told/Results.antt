@@ -2,11 +2,12 @@
 -- Assumes nothing.
 use mathlib.Core.Path.{◌≡◌, refl, sym, ◌∙◌, ap}
 use mathlib.Core.List.{List, ◌++◌}
-use mathlib.Core.Bool.{Bool, false}
+use mathlib.Core.Bool.{Bool, true, false}
 use Prim.Native.Nat.{ℕ}
 use lib.Dec.{eqb}
 use Rattle.std.proofs.Common.{Result, Ok, Err}
 use Rattle.std.specs.Result.{IsErrAnd}
+use Rattle.bits.specs.Words.{pick}
 use Rattle.told.specs.declared.refusals.Refusal.{Refusal}
 use Rattle.told.specs.declared.refusals.Refusal.TheVariants.{Shape, Row, Register, Value, NotReady, Direction, Busy, Online, Page, Duplicate, Alone, Room, Length, Mark, OrderId, Flags, Name, Twice}
 use Rattle.told.specs.Numbers as numbers
@@ -55,3 +56,16 @@ module _ (a b : List numbers.Refusal) where
 
   pub then_asked : {A B : Type 0} (r : Result A Refusal) (s : Result B Refusal) (v : B) → s ≡ Ok v → number s ≡ told a → number r ≡ told b → number r ≡ told (a ++ b)
   then_asked r s v w t q = q ∙ sym (told_second a b (sym t ∙ ap number w))
+
+-- ---- what a call does where it refuses nothing, and leaves where it refuses
+pub refused_keeps : {A : Type 0} (e : Refusal) (n : ℕ) (x y : A) → number_of e ≡ n → y ≡ pick (eqb n DONE) x y
+refused_keeps e n x y h = rw (← h, not_done e)
+
+pub done_goes : {A B : Type 0} (r : Result B Refusal) (v : B) (n : ℕ) (s x y : A) → r ≡ Ok v → number r ≡ n → s ≡ x → s ≡ pick (eqb n DONE) x y
+done_goes r v n s x y w h p = let z : n ≡ DONE = sym h ∙ ap number w in rw z p
+
+-- a test that was passed does not hold
+pub passed_not : {A : Type 0} (r : Result A Refusal) (v : A) (e : Refusal) (t : Bool) → r ≡ Ok v → number r ≡ refuse DONE (number_of e) t → t ≡ false
+unfolding refuse
+passed_not r v e false w h = refl
+passed_not r v e true w h = absurd (eqb-false (number_of e) DONE (not_done e) (sym h ∙ ap number w))
