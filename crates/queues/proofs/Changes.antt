@@ -13,7 +13,9 @@ use Rattle.queues.specs.Queues.{with_status, with_oldest, with_done, free_flag, 
 use Rattle.bits.specs.Flags.{oldest_bits}
 use Rattle.bits.specs.Words.{pick, clear, has, raise, lower}
 use Rattle.bits.specs.Flags.{TMA, TA, RI, CANCEL, LOW2, only}
-use Rattle.bits.proofs.Words.Bools.{and_left, and_right, cases, and_false, or_true, or_first, or_between, pick_of}
+use Rattle.std.proofs.lemmas.Bool.{cases_Bool}
+use Rattle.std.proofs.Math.Bool.{and-false, or-true}
+use Rattle.bits.proofs.Words.Bools.{and_left, and_right, or_first, or_between, pick_of}
 use Rattle.bits.proofs.Words.Masks.{lower_clears, raise_other, raise_sets, clear_within, nonzero}
 use Rattle.queues.proofs.Fits.{Fits, no_second, zero_done}
 use Rattle.queues.proofs.Going.{bits, behind_chains, agrees_gone, agrees_second_cancelled, agrees_completed, sound_gone, sound_completed, sound_second, sound_oldest, agrees_told, one_counted}
@@ -47,7 +49,7 @@ module _ (w : Way) {c : Bool} {l : ℕ} (s : Side) (f : Fits w c l s) where
           second = raise_other (255 - second_bits w) (second_flag w) entry b.waits_named ∙ clear_within (255 - oldest_bits w) (255 - second_bits w) entry b.within e;
           done = a.done;
           idle = a.idle;
-          behind = rw (and_right c (waiting w s) t, raise_sets (second_flag w) (second_flag w) entry b.waits_set, or_true (eqb (raise (second_flag w) entry) 0));
+          behind = rw (and_right c (waiting w s) t, raise_sets (second_flag w) (second_flag w) entry b.waits_set, or-true (eqb (raise (second_flag w) entry) 0));
           even_oldest = a.even_oldest;
           even_second = rw (raise_other 1 (second_flag w) entry b.waits_even) even;
           chains = rw (and_left c (waiting w s) t);
@@ -82,7 +84,7 @@ module _ (w : Way) {c : Bool} {l : ℕ} (s : Side) (f : Fits w c l s) where
       starts_sound Transmit = split (uncleared s.queue) refl
         where
           split : (u : Bool) → uncleared s.queue ≡ u → sound Transmit (with_status (lower (pick u TA (TA + TMA)) s.status) (with_oldest entry s)) ≡ true
-          split true k = rw k (or_true (clear TMA (lower TA s.status) || has TA (lower TA s.status)))
+          split true k = rw k (or-true (clear TMA (lower TA s.status) || has TA (lower TA s.status)))
           split false k = rw (lower_clears TMA (TA + TMA) s.status refl)
 
   pub fits_disabled : Fits w c l (disabled w s)
@@ -101,7 +103,7 @@ module _ (w : Way) {c : Bool} {l : ℕ} (s : Side) (f : Fits w c l s) where
           second = raise_other (255 - second_bits w) CANCEL y b.mark_second ∙ a.second;
           done = a.done;
           idle = a.idle;
-          behind = rw (t, raise_other (second_flag w) CANCEL y b.mark_waits, v, or_true (eqb (raise CANCEL y) 0));
+          behind = rw (t, raise_other (second_flag w) CANCEL y b.mark_waits, v, or-true (eqb (raise CANCEL y) 0));
           even_oldest = a.even_oldest;
           even_second = rw (raise_other 1 CANCEL y refl) a.even_second;
           chains = rw (behind_chains w s a v);
@@ -129,7 +131,7 @@ module _ (w : Way) {c : Bool} {l : ℕ} (s : Side) (f : Fits w c l s) where
       let a = f.agrees in
       let n = s.queue.done in
       pick_of (Fits w c l) (uncleared s.queue)
-      (λ t. let e : c ≡ true = or_first c _ a.chains (rw (nonzero LOW2 n t, and_false (eqb s.queue.second 0))) in
+      (λ t. let e : c ≡ true = or_first c _ a.chains (rw (nonzero LOW2 n t, and-false (eqb s.queue.second 0))) in
       pick_of (λ (m : ℕ). Fits w c l (with_done m (with_status (shows w (has KEPT n) s.status) s))) (has 2 n)
       (λ _. record { agrees = agrees_told w s a e 1 (one_counted w) (has KEPT n); tma = one_shown w (has KEPT n) })
       (λ k. record { agrees = agrees_told w s a e 0 (zero_done w) (has KEPT n); tma = none_shown w a.done k }))
@@ -137,7 +139,7 @@ module _ (w : Way) {c : Bool} {l : ℕ} (s : Side) (f : Fits w c l s) where
     where
       one_shown : (w : Way) (b : Bool) → sound w (with_done 1 (with_status (shows w b s.status) s)) ≡ true
       one_shown Receive b = refl
-      one_shown Transmit b = let x = shows Transmit b s.status in or_true (clear TMA x || has TA x)
+      one_shown Transmit b = let x = shows Transmit b s.status in or-true (clear TMA x || has TA x)
 
       -- one end alone has no TMA stored
       unkept : (n : ℕ) → counted Transmit n ≡ true → has 2 n ≡ false → has KEPT n ≡ false
@@ -145,7 +147,7 @@ module _ (w : Way) {c : Bool} {l : ℕ} (s : Side) (f : Fits w c l s) where
           ⊎_elim (λ (e : eqb n 0 ≡ true). rw (eqb-true n 0 e))
           (λ (e : eqb n 0 ≡ false). ⊎_elim (λ (i : eqb n 1 ≡ true). rw (eqb-true n 1 i))
           (λ (i : eqb n 1 ≡ false). ⊎_elim (λ (j : eqb n 2 ≡ true). absurd (true≢false (rw (eqb-true n 2 j) at k)))
-          (λ (j : eqb n 2 ≡ false). absurd (true≢false (rw (eqb-true n (KEPT + 2) (rw (e, i, j) at h)) at k))) (cases (eqb n 2))) (cases (eqb n 1))) (cases (eqb n 0))
+          (λ (j : eqb n 2 ≡ false). absurd (true≢false (rw (eqb-true n (KEPT + 2) (rw (e, i, j) at h)) at k))) (cases_Bool (eqb n 2))) (cases_Bool (eqb n 1))) (cases_Bool (eqb n 0))
 
       none_shown : (w : Way) → counted w s.queue.done ≡ true → has 2 s.queue.done ≡ false → sound w (with_done 0 (with_status (shows w (has KEPT s.queue.done) s.status) s)) ≡ true
       none_shown Receive h k = refl

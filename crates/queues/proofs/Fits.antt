@@ -12,7 +12,8 @@ use Rattle.queues.specs.Queues.{with_status, none, free_flag, waiting, two, coun
 use Rattle.bits.specs.Flags.{oldest_bits}
 use Rattle.bits.specs.Words.{clear, has}
 use Rattle.bits.specs.Flags.{TMA, TA, RI, only}
-use Rattle.bits.proofs.Words.Bools.{holds, or_true, or_first}
+use Rattle.std.proofs.Math.Bool.{or-true}
+use Rattle.bits.proofs.Words.Bools.{holds, or_first}
 
 -- all rules but that of TMA, which an end breaks until the oldest is gone
 pub record Agrees (w : Way) (chaining : Bool) (long : ℕ) (s : Side) : Type 0 where
@@ -90,8 +91,8 @@ fits_long w s f e l =
         done = a.done;
         idle = a.idle;
         behind = a.behind;
-        even_oldest = rw (e, or_true (not (eqb l 1)));
-        even_second = rw (eqb-true s.queue.second 0 (no_second w s a e), or_true (not (eqb l 1)));
+        even_oldest = rw (e, or-true (not (eqb l 1)));
+        even_second = rw (eqb-true s.queue.second 0 (no_second w s a e), or-true (not (eqb l 1)));
         chains = a.chains;
       };
       tma = f.tma;
@@ -117,15 +118,15 @@ fits_none w chaining long x e = record {
     oldest = zero_oldest w;
     second = zero_second w;
     done = zero_done w;
-    idle = or_true (clear (free_flag w) x);
+    idle = or-true (clear (free_flag w) x);
     behind = refl;
-    even_oldest = or_true (not (eqb long 1) || has (free_flag w) x);
-    even_second = or_true (not (eqb long 1));
-    chains = or_true chaining;
+    even_oldest = or-true (not (eqb long 1) || has (free_flag w) x);
+    even_second = or-true (not (eqb long 1));
+    chains = or-true chaining;
   };
   tma = told w e;
 }
   where
     told : (w : Way) → clear (free_flag w) x ≡ false → sound w (record { status = x; queue = none }) ≡ true
-    told Transmit t = rw (t, or_true (clear TMA x))
+    told Transmit t = rw (t, or-true (clear TMA x))
     told Receive t = refl

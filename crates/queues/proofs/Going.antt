@@ -12,7 +12,8 @@ use Rattle.queues.specs.Queues.{with_status, with_oldest, with_second, with_done
 use Rattle.bits.specs.Flags.{oldest_bits}
 use Rattle.bits.specs.Words.{clear, has, raise, raise_if, set_to}
 use Rattle.bits.specs.Flags.{TMA, TA, CANCEL, LOW2}
-use Rattle.bits.proofs.Words.Bools.{and_left, and_right, or_true, or_first, or_between, pick_of}
+use Rattle.std.proofs.Math.Bool.{or-true}
+use Rattle.bits.proofs.Words.Bools.{and_left, and_right, or_first, or_between, pick_of}
 use Rattle.bits.proofs.Words.Masks.{lower_to, lower_other, raise_sets, set_other, nonzero}
 use Rattle.queues.proofs.Fits.{Agrees, agrees_status, zero_oldest, zero_second}
 
@@ -72,16 +73,16 @@ module _ (w : Way) {c : Bool} {l : ℕ} where
         idle = rw (behind_waits s a t);
         behind = refl;
         even_oldest = rw (lower_other 1 (second_flag w) x b.up_even) (or_between (not (eqb l 1)) (has (free_flag w) s.status) (clear 1 x) a.even_second);
-        even_second = or_true (not (eqb l 1));
+        even_second = or-true (not (eqb l 1));
         chains = rw (behind_chains s a t);
       })
       (λ t. record {
         oldest = zero_oldest w;
         second = a.second;
         done = a.done;
-        idle = or_true (clear (free_flag w) (raise (free_flag w) s.status));
+        idle = or-true (clear (free_flag w) (raise (free_flag w) s.status));
         behind = rw (alone s a t);
-        even_oldest = or_true (not (eqb l 1) || has (free_flag w) (raise (free_flag w) s.status));
+        even_oldest = or-true (not (eqb l 1) || has (free_flag w) (raise (free_flag w) s.status));
         even_second = a.even_second;
         chains = a.chains;
       })
@@ -97,7 +98,7 @@ module _ (w : Way) {c : Bool} {l : ℕ} where
         idle = a.idle;
         behind = refl;
         even_oldest = a.even_oldest;
-        even_second = or_true (not (eqb l 1));
+        even_second = or-true (not (eqb l 1));
         chains = none c (eqb s.queue.second 0) (eqb s.queue.done 0) a.chains;
       })
     where
@@ -131,15 +132,15 @@ pub sound_gone : (w : Way) (s : Side) → (two w s.queue ≡ true → sound w s 
 sound_gone Receive s f = refl
 sound_gone Transmit s f =
     pick_of (λ (x : Side). sound Transmit x ≡ true) (two Transmit s.queue) f
-    (λ _. rw (raise_sets TA TA s.status (lit< tt), or_true (clear TMA (raise TA s.status))))
+    (λ _. rw (raise_sets TA TA s.status (lit< tt), or-true (clear TMA (raise TA s.status))))
 
 -- an end of a chaining row is not cleared yet
 pub sound_completed : (w : Way) (c acknowledged : Bool) (s : Side) → c ≡ true → sound w (completed w c acknowledged s) ≡ true
 sound_completed Receive c acknowledged s e = refl
 sound_completed Transmit c acknowledged s e =
     rw e
-    (pick_of (λ (x : Side). sound Transmit x ≡ true) (uncleared s.queue) (λ _. rw (kept acknowledged) (or_true (clear TMA s.status || has TA s.status)))
-    (λ _. let x = set_to acknowledged TMA s.status in or_true (clear TMA x || has TA x)))
+    (pick_of (λ (x : Side). sound Transmit x ≡ true) (uncleared s.queue) (λ _. rw (kept acknowledged) (or-true (clear TMA s.status || has TA s.status)))
+    (λ _. let x = set_to acknowledged TMA s.status in or-true (clear TMA x || has TA x)))
   where
     kept : (b : Bool) → has LOW2 (raise_if b KEPT 2) ≡ true
     kept true = refl

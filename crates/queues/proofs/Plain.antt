@@ -12,7 +12,8 @@ use Rattle.queues.specs.Queues.{with_status, with_oldest, with_second, none, fre
 use Rattle.bits.specs.Flags.{oldest_bits}
 use Rattle.bits.specs.Words.{pick, clear, has, raise, lower}
 use Rattle.bits.specs.Flags.{CANCEL, only}
-use Rattle.bits.proofs.Words.Bools.{or_true, pick_of}
+use Rattle.std.proofs.Math.Bool.{or-true}
+use Rattle.bits.proofs.Words.Bools.{pick_of}
 use Rattle.queues.proofs.Fits.{fit_rules, rules_fit, zero_second, zero_done}
 use Rattle.queues.proofs.Leaves.{unchained}
 
@@ -78,8 +79,8 @@ module _ (w : Way) (s : Side) (a : Alone s.queue) where
           idle = idle;
           behind = rw a.second;
           even_oldest = even;
-          even_second = rw a.second (or_true (not (eqb long 1)));
-          chains = rw (a.second, a.done) (or_true chaining);
+          even_second = rw a.second (or-true (not (eqb long 1)));
+          chains = rw (a.second, a.done) (or-true chaining);
         };
         tma = tma;
       })

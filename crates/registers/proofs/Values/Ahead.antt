@@ -12,7 +12,8 @@ use Rattle.registers.specs.Fit.{on_line}
 use Rattle.registers.specs.Registers.{sub, read_fetches, write_fetches, read_value, hardware_reset, writes_id}
 use Rattle.registers.specs.Refusals.{no_register, bad_value, write_refusals, write_number}
 use Rattle.registers.specs.Layout.{at_fetched, queue_bytes, read_changes, write_changes}
-use Rattle.bits.proofs.Words.Bools.{and_false, pick_of}
+use Rattle.std.proofs.Math.Bool.{and-false}
+use Rattle.bits.proofs.Words.Bools.{pick_of}
 use Rattle.told.proofs.Told.Smallest.{refuse_passed}
 
 module _ (g : Regs) where
@@ -22,7 +23,7 @@ module _ (g : Regs) where
 
   pub load_taken : (v : ℕ) → write_number g 3 v ≡ 0
   unfolding write_refusals no_register bad_value writes_id
-  load_taken v = let o = and_false (on_line g) in search (o, refuse_passed)
+  load_taken v = let o = and-false (on_line g) in search (o, refuse_passed)
 
   -- an access that does not fetch
   abbrev Without : List ℕ → Type 0

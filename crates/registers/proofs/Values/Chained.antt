@@ -15,7 +15,8 @@ use Rattle.registers.specs.Sides.{chaining}
 use Rattle.registers.specs.Fit.{fit}
 use Rattle.registers.specs.Registers.{sub, write_fetches, fetched, hardware_reset, after_write}
 use Rattle.registers.specs.Layout.{reset_bytes, at_second_transmit, at_second_receive, at_sent, at_received, at_fetched, write_bytes, write_changes}
-use Rattle.bits.proofs.Words.Bools.{cases, or_left, or_right, pick_both}
+use Rattle.std.proofs.lemmas.Bool.{cases_Bool}
+use Rattle.bits.proofs.Words.Bools.{or_left, or_right, pick_both}
 use Rattle.registers.proofs.Values.Keeps.{Keeps, row, row_at, keeps_all}
 use Rattle.registers.proofs.Values.KeepsCalls.{keeps_write}
 use Rattle.registers.proofs.Values.Unqueued.{Unqueued, unqueued_fit, unqueued_write}
@@ -34,11 +35,11 @@ unlisted [] i n f = refl
 unlisted (a ∷ l) i n f =
     ⊎_elim (λ (t : among chained a ≡ true). rw (differs t) (unlisted l i n (rw t at f)))
     (λ (t : among chained a ≡ false). let e : (eqb i a || among (no_chain l) i) ≡ false = rw t at f in
-    rw (or_left (eqb i a) _ e) (unlisted l i n (or_right (eqb i a) _ e))) (cases (among chained a))
+    rw (or_left (eqb i a) _ e) (unlisted l i n (or_right (eqb i a) _ e))) (cases_Bool (among chained a))
   where
     differs : among chained a ≡ true → eqb i a ≡ false
     differs t =
-        ⊎_elim (λ (e : eqb i a ≡ true). absurd (true≢false (sym t ∙ ap (among chained) (sym (eqb-true i a e)) ∙ n))) (λ (e : eqb i a ≡ false). e) (cases (eqb i a))
+        ⊎_elim (λ (e : eqb i a ≡ true). absurd (true≢false (sym t ∙ ap (among chained) (sym (eqb-true i a e)) ∙ n))) (λ (e : eqb i a ≡ false). e) (cases_Bool (eqb i a))
 
 -- what holds of the four holds of each that is among them
 of_chained : (P : ℕ → Type 0) → P at_second_transmit → P at_second_receive → P at_sent → P at_received → (i : ℕ) → among chained i ≡ true → P i
@@ -47,8 +48,8 @@ of_chained P a b c d i h =
     (λ (n : eqb i at_second_transmit ≡ false). ⊎_elim (λ (t : eqb i at_second_receive ≡ true). rw (eqb-true i _ t) b)
     (λ (m : eqb i at_second_receive ≡ false). ⊎_elim (λ (t : eqb i at_sent ≡ true). rw (eqb-true i _ t) c)
     (λ (k : eqb i at_sent ≡ false). ⊎_elim (λ (t : eqb i at_received ≡ true). rw (eqb-true i _ t) d)
-    (λ (j : eqb i at_received ≡ false). absurd (true≢false (sym h ∙ rw (n, m, k, j)))) (cases (eqb i at_received))) (cases (eqb i at_sent))) (cases (eqb i at_second_receive)))
-    (cases (eqb i at_second_transmit))
+    (λ (j : eqb i at_received ≡ false). absurd (true≢false (sym h ∙ rw (n, m, k, j)))) (cases_Bool (eqb i at_received))) (cases_Bool (eqb i at_sent))) (cases_Bool (eqb i at_second_receive)))
+    (cases_Bool (eqb i at_second_transmit))
 
 module _ (g h : Regs) (u : Unqueued g) (v : Unqueued h) where
   same : (i : ℕ) → among chained i ≡ true → get_or (row h) i 0 ≡ get_or (row g) i 0
@@ -59,14 +60,14 @@ module _ (g h : Regs) (u : Unqueued g) (v : Unqueued h) where
   pub keeps_plain : (l : List ℕ) → Keeps l g h → Keeps (no_chain l) g h
   keeps_plain l q = record {
     kept = λ k f. ⊎_elim (λ (t : among chained (suc (suc k)) ≡ true). same (suc (suc k)) t)
-        (λ (t : among chained (suc (suc k)) ≡ false). q.kept k (unlisted l _ (rw (row_at k) t) f)) (cases (among chained (suc (suc k))));
+        (λ (t : among chained (suc (suc k)) ≡ false). q.kept k (unlisted l _ (rw (row_at k) t) f)) (cases_Bool (among chained (suc (suc k))));
     later = λ k f. q.later k (unlisted l _ (apart k) f);
   }
     where
       apart : (k : ℕ) → among chained (at_fetched + k) ≡ false
       apart k =
           ⊎_elim (λ (t : among chained (at_fetched + k) ≡ true). absurd (let b = of_chained (λ (i : ℕ). i < at_fetched) (lit< tt) (lit< tt) (lit< tt) (lit< tt) (at_fetched + k) t in omega arith))
-          (λ (t : among chained (at_fetched + k) ≡ false). t) (cases (among chained (at_fetched + k)))
+          (λ (t : among chained (at_fetched + k) ≡ false). t) (cases_Bool (among chained (at_fetched + k)))
 
 -- a list that goes by CCHEN
 pub keeps_chained : (c : Bool) (l : Bool → List ℕ) → no_chain (l true) ≡ l false → (g h : Regs) → (c ≡ false → Unqueued g × Unqueued h) → Keeps (l true) g h → Keeps (l c) g h

@@ -19,7 +19,8 @@ use Rattle.registers.specs.Fields.{with_configuration}
 use Rattle.registers.specs.Naks.{nak_limit, naks, up_to_limit, naks_dropped, drops_command, drops_naks}
 use Rattle.registers.specs.Registers.{sub, stepped, hardware_reset, changes_chaining, configured, commanded, seventh_written, after_write}
 use Rattle.registers.specs.Events.{heard, cancelled, sent, enquired, transmitting}
-use Rattle.bits.proofs.Words.Bools.{cases, or_first, pick_of}
+use Rattle.std.proofs.lemmas.Bool.{cases_Bool}
+use Rattle.bits.proofs.Words.Bools.{or_first, pick_of}
 use Rattle.registers.proofs.Values.Fits.{Fit}
 use Rattle.registers.proofs.Values.FitNaks.{counted_naks}
 
@@ -40,10 +41,6 @@ module _ (g : Regs) where
   pub naks_refused : naks (enquired g true) ≡ up_to_limit (naks g + 1)
   unfolding enquired heard
   naks_refused = counted_naks g
-
-  pub naks_unanswered : naks (enquired g false) ≡ 0
-  unfolding enquired sent
-  naks_unanswered = refl
 
   -- ---- a write, and a hardware reset
   naks_commanded : (c : Option Command) → naks (commanded g c) ≡ pick (drops_command c) 0 (naks g)
@@ -108,4 +105,4 @@ module _ (g : Regs) (f : Fit g) where
   pub excess_is : has EXCNAK g.diagnostic ≡ eqb (naks g) nak_limit
   excess_is =
       ⊎_elim (λ (t : eqb (naks g) nak_limit ≡ true). rw t (rw t at f.excess))
-      (λ (t : eqb (naks g) nak_limit ≡ false). rw t (ap not (rw t at f.excess))) (cases (eqb (naks g) nak_limit))
+      (λ (t : eqb (naks g) nak_limit ≡ false). rw t (ap not (rw t at f.excess))) (cases_Bool (eqb (naks g) nak_limit))

@@ -15,7 +15,7 @@ use Rattle.bits.specs.Flags.{RI, TMA, TA, EXCNAK, LOW2, only, status_bits, diagn
 use Rattle.registers.specs.Fields.{with_id, with_status, with_diagnostic, with_mask, with_setup, with_tentative, with_nid, with_high, with_low, with_mode, with_long, with_fetched}
 use Rattle.registers.specs.Sides.{chaining, side_of, with_side}
 use Rattle.registers.specs.Naks.{nak_limit, naks}
-use Rattle.bits.proofs.Words.Bools.{cases}
+use Rattle.std.proofs.lemmas.Bool.{cases_Bool}
 use Rattle.bits.proofs.Words.Masks.{lower_other, raise_other}
 use Rattle.queues.proofs.Fits.{Fits, fits_status, fits_long}
 use Rattle.queues.proofs.Apart.{Apart}
@@ -56,7 +56,7 @@ module _ (g : Regs) (f : Fit g) where
   -- a transmit that NAKs are counted of waits still
   counts_still : (s : ℕ) → (eqb (naks g) 0 ≡ false → clear TA g.status ≡ true → clear TA s ≡ true) → (eqb (naks g) 0 || clear TA s) ≡ true
   counts_still s e =
-      ⊎_elim (λ (z : eqb (naks g) 0 ≡ true). rw z) (λ (z : eqb (naks g) 0 ≡ false). rw (z, e z (rw z at f.counts))) (cases (eqb (naks g) 0))
+      ⊎_elim (λ (z : eqb (naks g) 0 ≡ true). rw z) (λ (z : eqb (naks g) 0 ≡ false). rw (z, e z (rw z at f.counts))) (cases_Bool (eqb (naks g) 0))
 
   -- ---- a side, where the change leaves the flags of the status that are not its own
   pub fit_side : (w : Way) (s : Side) → Fits w (chaining g) g.long s → ((m : ℕ) → Apart w m → clear m s.status ≡ clear m (side_of w g).status)

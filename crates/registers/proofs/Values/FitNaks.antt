@@ -11,7 +11,9 @@ use Rattle.registers.specs.declared.regs.Regs.{Regs}
 use Rattle.bits.specs.Words.{pick, clear, has, raise_if}
 use Rattle.bits.specs.Flags.{TA, EXCNAK, only, diagnostic_bits}
 use Rattle.registers.specs.Naks.{nak_limit, naks, up_to_limit, next_naks, nak_counted, naks_dropped}
-use Rattle.bits.proofs.Words.Bools.{cases, or_true, pick_of}
+use Rattle.std.proofs.lemmas.Bool.{cases_Bool}
+use Rattle.std.proofs.Math.Bool.{or-true}
+use Rattle.bits.proofs.Words.Bools.{pick_of}
 use Rattle.bits.proofs.Words.Masks.{lower_other, lower_clears, raise_other, raise_sets}
 use Rattle.registers.proofs.Values.Fits.{Fit}
 
@@ -38,13 +40,13 @@ module _ (g : Regs) (f : Fit g) where
   shown_excess : pick (eqb (next_naks g) nak_limit) (has EXCNAK shown) (clear EXCNAK shown) ≡ true
   shown_excess =
       ⊎_elim (λ (t : eqb (next_naks g) nak_limit ≡ true). rw (t, raise_sets EXCNAK EXCNAK g.diagnostic (lit< tt)))
-      (λ (n : eqb (next_naks g) nak_limit ≡ false). rw n (rw (few n) at f.excess)) (cases (eqb (next_naks g) nak_limit))
+      (λ (n : eqb (next_naks g) nak_limit ≡ false). rw n (rw (few n) at f.excess)) (cases_Bool (eqb (next_naks g) nak_limit))
 
   pub fit_counted : clear TA g.status ≡ true → Fit (nak_counted g)
   fit_counted t =
       let n = counted_naks g in
       let m : leb (naks (nak_counted g)) nak_limit ≡ true = rw n (le-leb _ _ (up_most (naks g + 1))) in
-      let c : (eqb (naks (nak_counted g)) 0 || clear TA g.status) ≡ true = rw t (or_true (eqb (naks (nak_counted g)) 0)) in
+      let c : (eqb (naks (nak_counted g)) 0 || clear TA g.status) ≡ true = rw t (or-true (eqb (naks (nak_counted g)) 0)) in
       let x : pick (eqb (naks (nak_counted g)) nak_limit) (has EXCNAK shown) (clear EXCNAK shown) ≡ true = rw n shown_excess in
       let d = shown_named in
       search (f, d, m, c, x)

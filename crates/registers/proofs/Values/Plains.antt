@@ -22,7 +22,8 @@ use Rattle.registers.specs.Registers.{shown, interrupt, changes_chaining, config
 use Rattle.registers.specs.Refusals.{bad_value, busy, chain_busy, write_refusals}
 use Rattle.registers.specs.Events.{takes_broadcasts, transmit_page, receive_page}
 use Rattle.registers.specs.Plain.{plain_configured, plain_bad_value, plain_busy, plain_write_refusals, plain_agree, plain_fit, Plain}
-use Rattle.bits.proofs.Words.Bools.{and_left, and_right, or_false, or_first, holds}
+use Rattle.std.proofs.Math.Bool.{or-false}
+use Rattle.bits.proofs.Words.Bools.{and_left, and_right, or_first, holds}
 use Rattle.queues.proofs.Plain.{Alone, plain_fit_lem}
 use Rattle.registers.proofs.Values.Fits.{fit_rules}
 use Rattle.registers.proofs.Values.Unqueued.{Unqueued, unqueued_fit, received_plain, sent_plain, commanded_plain, cancelled_plain}
@@ -48,10 +49,10 @@ module _ (g : Regs) (c : chaining g ≡ false) where
   module _ (k v : ℕ) (h : v < 256) (n : (eqb k 6 && has CCHEN v) ≡ false) where
     value_plain : bad_value g k v ≡ plain_bad_value g k v
     unfolding bad_value
-    value_plain = rw (c, plain_legal v h, n, or_false (eqb k 0 && not (only mask_bits v) || eqb k 1 && not (among legal_bytes v) || eqb k 2 && not (only mode_bits v)))
+    value_plain = rw (c, plain_legal v h, n, or-false (eqb k 0 && not (only mask_bits v) || eqb k 1 && not (among legal_bytes v) || eqb k 2 && not (only mode_bits v)))
 
     waiting_plain : (eqb k 1 && busy g (command_of v) || eqb k 6 && chain_busy g v) ≡ (eqb k 1 && plain_busy g (command_of v))
-    waiting_plain = rw (split (eqb k 6) n, busy_plain (command_of v)) (or_false (eqb k 1 && plain_busy g (command_of v)))
+    waiting_plain = rw (split (eqb k 6) n, busy_plain (command_of v)) (or-false (eqb k 1 && plain_busy g (command_of v)))
       where
         split : (b : Bool) → (b && has CCHEN v) ≡ false → (b && chain_busy g v) ≡ false
         split true e = rw (unchanged v (not-false _ e))

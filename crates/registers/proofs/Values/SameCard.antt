@@ -17,7 +17,8 @@ use Rattle.registers.specs.Fit.{awake, on_line}
 use Rattle.commands.specs.Commands.{command_of}
 use Rattle.registers.specs.Registers.{sub, stepped, after_read, hardware_reset, changes_chaining, configured, commanded, writes_id, seventh_written, after_write}
 use Rattle.registers.specs.Events.{burst, recovered, heard, answered, risen_nid, received, cancelled, sent, enquired}
-use Rattle.bits.proofs.Words.Bools.{pick_of, cases}
+use Rattle.std.proofs.lemmas.Bool.{cases_Bool}
+use Rattle.bits.proofs.Words.Bools.{pick_of}
 use mathlib.Core.Logic.{⊎_elim}
 
 -- h is the card that g was, in the same configuration, with the same NID and tentative ID
@@ -182,13 +183,13 @@ module _ (g : Regs) (k v : ℕ) where
   write_nid =
       ⊎_elim (λ (t : eqb k 6 ≡ true). rw (eqb-true k 6 t) (write_six g v).nid)
       (λ (n6 : eqb k 6 ≡ false). ⊎_elim (λ (t : eqb k 7 ≡ true). rw (eqb-true k 7 t) (write_seven g v).nid)
-      (λ (n7 : eqb k 7 ≡ false). (same_write g k v n6 n7).nid) (cases (eqb k 7)))
-      (cases (eqb k 6))
+      (λ (n7 : eqb k 7 ≡ false). (same_write g k v n6 n7).nid) (cases_Bool (eqb k 7)))
+      (cases_Bool (eqb k 6))
 
   pub write_id_byte : g.id < 256 → v < 256 → (after_write g k v).id < 256
   write_id_byte a b =
       ⊎_elim (λ (t : eqb k 6 ≡ true). rw (eqb-true k 6 t, (write_six g v).id) a)
       (λ (n6 : eqb k 6 ≡ false). ⊎_elim
       (λ (t : eqb k 7 ≡ true). rw (eqb-true k 7 t, write_id g v) (pick_of (λ (n : ℕ). n < 256) (writes_id g 7) (λ _. b) (λ _. a)))
-      (λ (n7 : eqb k 7 ≡ false). rw (same_write g k v n6 n7).id a) (cases (eqb k 7)))
-      (cases (eqb k 6))
+      (λ (n7 : eqb k 7 ≡ false). rw (same_write g k v n6 n7).id a) (cases_Bool (eqb k 7)))
+      (cases_Bool (eqb k 6))

@@ -17,7 +17,8 @@ use Rattle.registers.specs.Naks.{naks, naks_dropped}
 use Rattle.registers.specs.Registers.{after_read, interrupt, commanded}
 use Rattle.registers.specs.Events.{receive_cancelled, cancelled, sent}
 use Rattle.registers.specs.Unrefused.{Unrefused}
-use Rattle.bits.proofs.Words.Bools.{or_false, or_first}
+use Rattle.std.proofs.Math.Bool.{or-false}
+use Rattle.bits.proofs.Words.Bools.{or_first}
 use Rattle.bits.proofs.Words.Table.{by_table}
 use Rattle.registers.proofs.Values.Fits.{Fit}
 
@@ -49,6 +50,6 @@ unrefused g f l z =
       flags = λ p r. ap (with_status (lower (pick p POR 0) (lower (pick r RECON 0) g.status))) (none_dropped g low high d p);
       reset = ap (λ (h : Regs). with_status 0x91 (with_diagnostic 0 (with_mask 0 (with_transmit queues.none (with_receive queues.none (with_long 0 h)))))) (none_counted g low high d);
       read = ap (λ (x : ℕ). with_diagnostic x g) (eqb-true _ _ c);
-      interrupt = rw c (or_false (has POR g.status || pick (chaining g) (tri g) (has RI g.status) && has RI g.mask || has RECON g.status && has RECON g.mask
+      interrupt = rw c (or-false (has POR g.status || pick (chaining g) (tri g) (has RI g.status) && has RI g.mask || has RECON g.status && has RECON g.mask
           || pick (chaining g) (tta g) (has TA g.status) && has TA g.mask));
     }

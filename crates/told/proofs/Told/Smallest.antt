@@ -10,7 +10,9 @@ use borrow.Author.Tests.{eq-eqb, ne_eqb, eqb-true, eqb-false, ltb-true}
 use lib.Dec.{eqb, ltb}
 use Rattle.bits.specs.Words.{pick, among}
 use Rattle.told.specs.Numbers.{DONE, numbers, Refusal, ◌when◌, refuse, told_after, told, numbers_of, follows, rises_from, rises, refuses, Smallest}
-use Rattle.bits.proofs.Words.Bools.{and_false, cases, and_left, and_right}
+use Rattle.std.proofs.lemmas.Bool.{cases_Bool}
+use Rattle.std.proofs.Math.Bool.{and-false}
+use Rattle.bits.proofs.Words.Bools.{and_left, and_right}
 
 -- ---- one refusal: it is told, it does not hold, or a number told before it stands
 pub refuse_held : (k : ℕ) (t : Bool) → t ≡ true → refuse DONE k t ≡ k
@@ -19,7 +21,7 @@ refuse_held k t e = rw e
 
 pub refuse_passed : (n k : ℕ) (t : Bool) → t ≡ false → refuse n k t ≡ n
 unfolding refuse
-refuse_passed n k t e = rw (e, and_false (eqb n DONE))
+refuse_passed n k t e = rw (e, and-false (eqb n DONE))
 
 pub refuse_stays : (n k : ℕ) (t : Bool) → (n ≡ DONE → ⊥) → refuse n k t ≡ n
 unfolding refuse
@@ -45,7 +47,7 @@ module _ (a b : List Refusal) where
   told_both e =
       ⊎_elim (λ t. let z = eqb-true (told a) DONE t in (z, sym (told_second z) ∙ e))
       (λ t. let n = eqb-false (told a) DONE t in absurd (n (sym (told_first n) ∙ e)))
-      (cases (eqb (told a) DONE))
+      (cases_Bool (eqb (told a) DONE))
 
 -- ---- numbers that rise: the first, and the rest
 module _ (n k : ℕ) (l : List ℕ) (r : rises_from n (k ∷ l) ≡ true) where
@@ -76,7 +78,7 @@ above [] n m r h = absurd (false≢true h)
 above (k when t ∷ l) n m r h =
     let p = higher n k (numbers_of l) r in
     ⊎_elim (λ (e : eqb m k ≡ true). rw (eqb-true m k e) p)
-    (λ (e : eqb m k ≡ false). omega (arith, above l k m (rest n k (numbers_of l) r) (rw e at h))) (cases (eqb m k))
+    (λ (e : eqb m k ≡ false). omega (arith, above l k m (rest n k (numbers_of l) r) (rw e at h))) (cases_Bool (eqb m k))
 
 later : (b c : Bool) → pick b false c ≡ true → c ≡ true
 later true c h = absurd (false≢true h)
@@ -95,7 +97,7 @@ smallest_from (k when true ∷ l) n r =
       least = λ m h. (
         q,
         ⊎_elim (λ (e : eqb m k ≡ true). omega (arith, eqb-true m k e))
-            (λ (e : eqb m k ≡ false). omega (arith, above l k m (rest n k (numbers_of l) r) (rw e at h))) (cases (eqb m k)),
+            (λ (e : eqb m k ≡ false). omega (arith, above l k m (rest n k (numbers_of l) r) (rw e at h))) (cases_Bool (eqb m k)),
       );
     })
 smallest_from (k when false ∷ l) n r =
@@ -113,11 +115,11 @@ smallest l r = smallest_from l DONE r
 pub refuses_among : (l : List Refusal) (n : ℕ) → refuses l n ≡ true → among (numbers_of l) n ≡ true
 refuses_among [] n h = h
 refuses_among (k when t ∷ l) n h =
-    ⊎_elim (λ (e : eqb n k ≡ true). rw e) (λ (e : eqb n k ≡ false). rw e (refuses_among l n (rw e at h))) (cases (eqb n k))
+    ⊎_elim (λ (e : eqb n k ≡ true). rw e) (λ (e : eqb n k ≡ false). rw e (refuses_among l n (rw e at h))) (cases_Bool (eqb n k))
 
 -- where DONE is told no refusal holds
 pub none_refuses : (l : List Refusal) → rises (numbers_of l) ≡ true → told l ≡ DONE → (n : ℕ) → refuses l n ≡ false
-none_refuses l r z n = ⊎_elim (λ t. absurd (((smallest l r).least n t).0 z)) (λ t. t) (cases (refuses l n))
+none_refuses l r z n = ⊎_elim (λ t. absurd (((smallest l r).least n t).0 z)) (λ t. t) (cases_Bool (refuses l n))
 
 -- ---- the numbers themselves: they rise, so that none is given twice, and 11 is not given again
 pub numbers_rise : rises numbers ≡ true
