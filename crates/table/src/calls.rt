@@ -65,6 +65,7 @@ fn settle(net: &mut [u8], k: usize, was: bool)
 }
 
 // A register of a row is written, in a network that SHAPE does not refuse. It serves whoever has tested SHAPE already.
+#[tactic(auto, using(crate::proofs::Shaped::Shapes::shape_least, crate::proofs::Shaped::Shapes::shape_within, crate::proofs::Shaped::Shapes::shape_room, crate::proofs::Rows::Walks::walked_room, crate::proofs::Rows::Walks::row_sized))]
 pub fn write_on(net: &mut [u8], row: usize, register: usize, value: u8) -> Result<(), Refusal>
     requires net_value { shape net.old ≡ true }
     requires row_bound { row < rows net.old }
@@ -119,7 +120,7 @@ fn may_expire(net: &[u8], row: usize) -> Result<(), Refusal>
 }
 
 // A row's lost-token timer expires.
-#[tactic(auto, using(told::proofs::Told::Results::handed_number, told::proofs::Told::Results::refused_keeps, told::proofs::Told::Results::done_goes, crate::proofs::Access::Handed::timer_behind), unfolding(crate::specs::Calls::net_after_timer))]
+#[tactic(auto, using(told::proofs::Told::Results::handed_number, told::proofs::Told::Results::refused_keeps, told::proofs::Told::Results::done_goes, crate::proofs::Access::Handed::timer_behind, crate::proofs::Access::Handed::timer_least), unfolding(crate::specs::Calls::net_after_timer))]
 pub fn timer(net: &mut [u8], row: usize) -> Result<(), Refusal>
     ensures number { number result ≡ timer_number net.old row }
     ensures bytes { net.new ≡ net_after_timer net.old row }
@@ -141,14 +142,15 @@ pub fn interrupt(net: &[u8], row: usize) -> Result<bool, Refusal>
 }
 
 // The data of a page of a row: that stretch of the network itself, of length 0 where the call below refuses.
+#[tactic(auto, using(told::proofs::Told::Results::refused_keeps, told::proofs::Told::Results::done_goes, crate::proofs::Access::Handed::room_behind), unfolding(crate::specs::Calls::net_data))]
 pub fn page_data(net: &[u8], row: usize, page: usize) -> &[u8]
     ensures bytes { result.now ≡ net_data net.now row page }
     ensures place { net_data_number net.now row page ≡ 0 → result.ref_ptr ≡ onward net.entry.ref_ptr (net_data_from net.now row page) }
 {
-    if place(net, row).is_err() {
-        return &net[0..0];
+    match place(net, row) {
+        Ok(()) => card::packets::page_data(row_at(net, row), page),
+        Err(_) => &net[0..0],
     }
-    card::packets::page_data(row_at(net, row), page)
 }
 
 // Whether the reader's data may be asked for.
@@ -161,7 +163,7 @@ pub fn may_read_data(net: &[u8], row: usize, page: usize) -> Result<(), Refusal>
 }
 
 // A network of n rows is made in the bytes lent, whatever they were.
-#[tactic(auto, using(told::proofs::Told::Results::handed_number, told::proofs::Told::Results::refused_keeps, told::proofs::Told::Results::done_goes), unfolding(crate::specs::Calls::net_after_fresh))]
+#[tactic(auto, using(told::proofs::Told::Results::handed_number, told::proofs::Told::Results::refused_keeps, told::proofs::Told::Results::done_goes, crate::proofs::Access::Handed::fresh_few, crate::proofs::Access::Handed::fresh_exact, crate::proofs::Access::Handed::fresh_least), unfolding(crate::specs::Calls::net_after_fresh))]
 pub fn fresh(net: &mut [u8], n: usize) -> Result<(), Refusal>
     ensures number { number result ≡ fresh_number net.old n }
     ensures bytes { net.new ≡ net_after_fresh net.old n }
@@ -212,11 +214,9 @@ fn create_rows(net: &mut [u8], n: usize)
     ensures { net.new ≡ take header_bytes net.old ++ joined (λ k. fresh_row) 0 n (drop (exact_length n) net.old) }
 {
     let mut a = HEADER;
-    let mut k = 0;
-    while k < n {
+    for _ in 0..n {
         let e = a + ROW_BYTES;
         card::row::create(&mut net[a..e]);
         a = e;
-        k += 1;
     }
 }

@@ -85,10 +85,6 @@ header_written net z n l e = rw (e, length-take-le header_bytes net l)
 
 -- ---- the call, whose number is r
 module _ (net : List ℕ) (n r : ℕ) (p : r ≡ fresh_number net n) where
-  pub fresh_refused : (r ≡ 0 → ⊥) → (r ≡ fresh_number net n) × (net ≡ net_after_fresh net n)
-  unfolding net_after_fresh
-  fresh_refused h = (p, rw (← p, ne_eqb _ _ h))
-
   module _ (z : r ≡ 0) where
     none : (m : ℕ) → refuses (fresh_refusals net n) m ≡ false
     unfolding fresh_number fresh_refusals
@@ -104,12 +100,12 @@ module _ (net : List ℕ) (n r : ℕ) (p : r ≡ fresh_number net n) where
 
     pub fresh_done : (x : List ℕ) → x ≡ header n ++ drop header_bytes net
         → (m : List ℕ) → m ≡ take header_bytes x ++ joined (λ k. fresh_row) 0 n (drop (exact_length n) x)
-        → (0 ≡ fresh_number net n) × (m ≡ net_after_fresh net n)
+        → m ≡ net_after_fresh net n
     unfolding net_after_fresh fresh_net fresh_rows
     fresh_done x e m a =
         let w = ap length e ∙ length-append (header n) (drop header_bytes net) in
         let l : length x ≤ exact_length n = omega (arith, length-drop header_bytes net, fresh_fits.1, exact_least n) in
-        (sym z ∙ p, a ∙ rw (drop_of_length-le x l, e, ← p, eq-eqb _ _ z))
+        a ∙ rw (drop_of_length-le x l, e, ← p, eq-eqb _ _ z)
 
 -- ---- the call for 1 to row_limit rows: ROOM, or the network is made
 module _ (net : List ℕ) (n : ℕ) where

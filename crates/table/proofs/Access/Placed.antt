@@ -27,16 +27,6 @@ use Rattle.table.specs.Calls.{place_refusals, place_number, net_read_number, net
 use Rattle.table.proofs.Rows.Walks.{Lies, mid_row, row_done_lem}
 use Rattle.table.proofs.Shaped.Shapes.{shape_least, shape_within}
 
--- ---- SHAPE and ROW, as the code asks them
-module _ (net : List ℕ) (k : ℕ) (s : Bool) (e : s ≡ shape net) where
-  pub place_refused : not s ≡ true → SHAPE ≡ place_number net k
-  unfolding place_number place_refusals
-  place_refused f = rw (refuse_held SHAPE (not (shape net)) (ap not (sym e) ∙ f), refuse_stays SHAPE ROW (leb (rows net) k) (λ z. omega arith))
-
-  pub place_asked : not s ≡ false → (n : ℕ) → n ≡ rows net → (r : ℕ) → r ≡ refuse DONE ROW (leb n k) → r ≡ place_number net k
-  unfolding place_number place_refusals
-  place_asked f n m r h = rw (refuse_passed DONE SHAPE (not (shape net)) (ap not (sym e) ∙ f), ← m) h
-
 -- row k is there: the header and its part lie in the network, and the place has the number 0
 module _ (net : List ℕ) (k : ℕ) (s : shape net ≡ true) (l : k < rows net) where
   row_part : (header_bytes ≤ length net) × (row_start net (suc k) ≤ length net)
@@ -83,34 +73,15 @@ module _ (net : List ℕ) (k n : ℕ) (p : n ≡ place_number net k) where
     unfolding place_number
     placed_asked z m e = e ∙ sym (told_second (place_refusals net k) l (sym p ∙ z))
 
-  -- ---- the interrupt
-  pub interrupt_refused : (n ≡ 0 → ⊥) → ◌≡◌ {A = Interrupting} (record { number = n; active = false }) (net_interrupt net k)
-  unfolding net_interrupt
-  interrupt_refused h = rw (← p, ne_eqb _ _ h)
-
-  pub interrupt_done : n ≡ 0 → (g : Regs) (b : Bool) → g ≡ regs_at net k → b ≡ interrupt g
-      → ◌≡◌ {A = Interrupting} (record { number = 0; active = b }) (net_interrupt net k)
-  unfolding net_interrupt
-  interrupt_done z g b e f = rw (← p, z, f, e)
-
-  -- ---- the page reader
-  pub data_refused : (g : ℕ) → (n ≡ 0 → ⊥) → [] ≡ net_data net k g
-  unfolding net_data
-  data_refused g h = rw (← p, ne_eqb _ _ h)
-
-  pub data_done : (g : ℕ) → n ≡ 0 → (r : List ℕ) → r ≡ row_at net k → page_data r g ≡ net_data net k g
-  unfolding net_data
-  data_done g z r e = rw (← p, eq-eqb _ _ z, e)
-
-  -- the page's data stand at y, in the row at x, in the network at w
-  pub data_stands : (g : ℕ) → n ≡ 0 → (r : List ℕ) → r ≡ row_at net k → (w x y : ℕ × ℕ) → x ≡ onward w (row_start net k)
-      → (data_number r g ≡ 0 → y ≡ onward x (data_from r g))
-      → net_data_number net k g ≡ 0
-      → y ≡ onward w (net_data_from net k g)
-  unfolding net_data_number
-  data_stands g z r e w x y a h q =
-      let d = placed_asked _ z (data_number r g) (ap (λ (l : List ℕ). data_number l g) e) ∙ q in
-      onward_onward w x y _ _ a (h d) ∙ ap (λ (l : List ℕ). onward w (row_start net k + data_from l g)) e
+-- ---- the page reader, where the place is given: the page's data stand at y, in the row at x, in the network at w
+pub data_stands : (net : List ℕ) (k g : ℕ) → place_number net k ≡ 0 → (r : List ℕ) → r ≡ row_at net k → (w x y : ℕ × ℕ) → x ≡ onward w (row_start net k)
+    → (data_number r g ≡ 0 → y ≡ onward x (data_from r g))
+    → net_data_number net k g ≡ 0
+    → y ≡ onward w (net_data_from net k g)
+unfolding net_data_number
+data_stands net k g z r e w x y a h q =
+    let d = placed_asked net k (place_number net k) refl _ z (data_number r g) (ap (λ (l : List ℕ). data_number l g) e) ∙ q in
+    onward_onward w x y _ _ a (h d) ∙ ap (λ (l : List ℕ). onward w (row_start net k + data_from l g)) e
 
 -- ---- a call with the number 0, whose refusals are those of the place and its own: its row is there
 module _ (net : List ℕ) (k : ℕ) where
@@ -138,33 +109,16 @@ module _ (net : List ℕ) (k : ℕ) where
   row_there z = (at_shape net k (place_number net k) refl z, at_row net k (place_number net k) refl z)
 
 -- ---- reading
-module _ (net : List ℕ) (k g n : ℕ) (p : n ≡ net_read_number net k g) where
-  pub read_part : n ≡ 0 → (header_bytes ≤ length net) × (row_start net (suc k) ≤ length net)
-  read_part z = at_part net k (place_number net k) refl (read_placed net k g (sym p ∙ z))
-
-  pub read_refused : (n ≡ 0 → ⊥) → (◌≡◌ {A = Reading} (record { number = n; value = 0 }) (net_reading net k g)) × (net ≡ net_after_read net k g)
-  unfolding net_reading net_after_read
-  read_refused h = (rw (← p, ne_eqb _ _ h), rw (← p, ne_eqb _ _ h))
+module _ (net : List ℕ) (k g : ℕ) (z : net_read_number net k g ≡ 0) where
+  pub read_part : (header_bytes ≤ length net) × (row_start net (suc k) ≤ length net)
+  read_part = at_part net k (place_number net k) refl (read_placed net k g z)
 
   -- the row is lent from a to e
-  pub read_done : n ≡ 0 → (a e : ℕ) → Lies net k a e → (v : ℕ) (s : List ℕ) → v ≡ value_read (mid_of a (e - a) net) g → s ≡ row_after_read (mid_of a (e - a) net) g
+  pub read_done : (a e : ℕ) → Lies net k a e → (v : ℕ) (s : List ℕ) → v ≡ value_read (mid_of a (e - a) net) g → s ≡ row_after_read (mid_of a (e - a) net) g
       → (◌≡◌ {A = Reading} (record { number = 0; value = v }) (net_reading net k g)) × (put_mid a (e - a) net s ≡ net_after_read net k g)
   unfolding net_reading net_after_read
-  read_done z a e q v s c d = (
-    rw (← p, z, c, mid_row net k a e q),
-    row_done_lem net k a e q (λ r. row_after_read r g) s d ∙ rw (← p, eq-eqb _ _ z),
-  )
+  read_done a e q v s c d = (rw (z, c, mid_row net k a e q), row_done_lem net k a e q (λ r. row_after_read r g) s d ∙ rw (eq-eqb _ _ z))
 
 -- ---- the lost-token timer
-module _ (net : List ℕ) (k n : ℕ) (p : n ≡ timer_number net k) where
-  pub timer_part : n ≡ 0 → (header_bytes ≤ length net) × (row_start net (suc k) ≤ length net)
-  timer_part z = at_part net k (place_number net k) refl (timer_placed net k (sym p ∙ z))
-
-  pub timer_refused : (n ≡ 0 → ⊥) → (n ≡ timer_number net k) × (net ≡ net_after_timer net k)
-  unfolding net_after_timer
-  timer_refused h = (p, rw (← p, ne_eqb _ _ h))
-
-  pub timer_done : n ≡ 0 → (g : Regs) → g ≡ regs_at net k → (x : Regs) → x ≡ burst g → (s : List ℕ) → s ≡ set_row net k (put_regs (row_at net k) x)
-      → (y : List ℕ) → y ≡ turned s LOST 0 → (0 ≡ timer_number net k) × (y ≡ net_after_timer net k)
-  unfolding net_after_timer
-  timer_done z g e x d s c y a = (sym z ∙ p, a ∙ rw (← p, eq-eqb _ _ z, c, d, e))
+pub timer_part : (net : List ℕ) (k : ℕ) → timer_number net k ≡ 0 → (header_bytes ≤ length net) × (row_start net (suc k) ≤ length net)
+timer_part net k z = at_part net k (place_number net k) refl (timer_placed net k z)

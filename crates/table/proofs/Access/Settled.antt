@@ -17,6 +17,13 @@ use Rattle.card.specs.Access.{row_after_write, row_after_reset}
 use Rattle.registers.specs.Events.{burst}
 use Rattle.bits.proofs.Words.Bools.{and_assoc}
 use Rattle.told.proofs.Told.Smallest.{told_append}
+use Rattle.told.proofs.Told.Results.{stands}
+use Rattle.told.specs.declared.refusals.Refusal as kinds
+use Rattle.told.specs.Refusals.{number_of}
+use Rattle.std.proofs.Common.{Option}
+use Rattle.std.specs.Option.{is_some}
+use Rattle.table.specs.Folds.{below}
+use Rattle.table.proofs.Folds.{below_some}
 use Rattle.table.specs.Rows.{row_at, set_row}
 use Rattle.table.specs.Network.{rows, phase, holder, LOST, turned, regs_at, on_line_at, node_of, shape}
 use Rattle.table.specs.Calls.{place_number, is_holder, settled, duplicate, row_write_refusals, net_write_number, net_after_write, net_after_reset}
@@ -47,34 +54,24 @@ module _ (net : List ℕ) (k : ℕ) (was : Bool) (g : Regs) (b : Bool) (p : g �
     unfolding settled
     settle_kept u = rw (sym (online_is net k g b p q) ∙ t, sym held ∙ u)
 
--- ---- hardware reset
-module _ (net : List ℕ) (k n : ℕ) (p : n ≡ place_number net k) where
-  pub reset_refused : (n ≡ 0 → ⊥) → (n ≡ place_number net k) × (net ≡ net_after_reset net k)
-  unfolding net_after_reset
-  reset_refused h = (p, rw (← p, ne_eqb _ _ h))
-
-  -- the row is lent from a to e
-  pub reset_done : n ≡ 0 → (was : Bool) → was ≡ on_line_at net k → (a e : ℕ) → Lies net k a e → (s : List ℕ) → s ≡ row_after_reset (mid_of a (e - a) net)
-      → (m : List ℕ) → m ≡ settled (put_mid a (e - a) net s) k was → (0 ≡ place_number net k) × (m ≡ net_after_reset net k)
-  unfolding net_after_reset
-  reset_done z was o a e q s c m d = (sym z ∙ p, d ∙ rw (row_done_lem net k a e q row_after_reset s c, o, ← p, eq-eqb _ _ z))
+-- ---- hardware reset: the row is lent from a to e
+pub reset_done : (net : List ℕ) (k : ℕ) → place_number net k ≡ 0 → (was : Bool) → was ≡ on_line_at net k → (a e : ℕ) → Lies net k a e → (s : List ℕ)
+    → s ≡ row_after_reset (mid_of a (e - a) net) → (m : List ℕ) → m ≡ settled (put_mid a (e - a) net s) k was → m ≡ net_after_reset net k
+unfolding net_after_reset
+reset_done net k z was o a e q s c m d = d ∙ rw (row_done_lem net k a e q row_after_reset s c, o, eq-eqb _ _ z)
 
 -- ---- writing: DUPLICATE as the code asks it
 pub is_duplicate : (net : List ℕ) (k r : ℕ) (g : Regs) → g ≡ regs_at net k → (v : ℕ) (h : Regs) → h ≡ after_write g r v → (n : ℕ) → n ≡ rows net
-    → (on : Bool) → on ≡ on_line h → (f : ℕ) → f ≡ node_of net h.id k n → (on && ltb f n) ≡ duplicate net k r v
+    → (on : Bool) → on ≡ on_line h → (o : Option ℕ) → o ≡ below n (node_of net h.id k n) → (on && is_some o) ≡ duplicate net k r v
 unfolding duplicate
-is_duplicate net k r g e v h a n l on o f d = rw (o, d, l, a, e)
+is_duplicate net k r g e v h a n l on o f d = rw (o, d, below_some, l, a, e)
 
-module _ (net : List ℕ) (k r v n : ℕ) (p : n ≡ net_write_number net k r v) where
-  pub write_refused : (n ≡ 0 → ⊥) → (n ≡ net_write_number net k r v) × (net ≡ net_after_write net k r v)
-  unfolding net_after_write
-  write_refused h = (p, rw (← p, ne_eqb _ _ h))
-
-  pub write_done : n ≡ 0 → (a e : ℕ) → Lies net k a e → (s : List ℕ) → s ≡ row_after_write (mid_of a (e - a) net) r v → (was : Bool) → was ≡ on_line_at net k
-      → (c : List ℕ) → c ≡ settled (put_mid a (e - a) net s) k was → (0 ≡ net_write_number net k r v) × (c ≡ net_after_write net k r v)
-  unfolding net_after_write
-  write_done z a e q s t was b c d =
-      (sym z ∙ p, d ∙ rw (row_done_lem net k a e q (λ row. row_after_write row r v) s t, b, ← p, eq-eqb _ _ z))
+-- the row is lent from a to e
+pub write_done : (net : List ℕ) (k r v : ℕ) → net_write_number net k r v ≡ 0 → (a e : ℕ) → Lies net k a e → (s : List ℕ)
+    → s ≡ row_after_write (mid_of a (e - a) net) r v → (was : Bool) → was ≡ on_line_at net k
+    → (c : List ℕ) → c ≡ settled (put_mid a (e - a) net s) k was → c ≡ net_after_write net k r v
+unfolding net_after_write
+write_done net k r v z a e q s t was b c d = d ∙ rw (row_done_lem net k a e q (λ row. row_after_write row r v) s t, b, eq-eqb _ _ z)
 
 -- in a network that SHAPE does not refuse: the card's number, and DUPLICATE behind it
 pub write_asked : (net : List ℕ) (k : ℕ) → shape net ≡ true → k < rows net → (r v : ℕ) (g : Regs) → g ≡ regs_at net k → (a : ℕ) → a ≡ write_number g r v
@@ -83,3 +80,11 @@ unfolding net_write_number
 write_asked net k p q r v g e a u d j m t =
     placed_asked net k 0 (sym (row_placed net k p q)) (row_write_refusals net k r v) refl m
     (t ∙ rw (u, e, j) (sym (told_append (write_refusals (regs_at net k) r v) (DUPLICATE when duplicate net k r v ∷ []) DONE)))
+
+-- a refusal of the card's stands; and that of DUPLICATE, or none, is told where the card refuses nothing
+module _ (net : List ℕ) (k : ℕ) (p : shape net ≡ true) (q : k < rows net) (r v : ℕ) (g : Regs) (u : g ≡ regs_at net k) where
+  pub card_refuses : (e : kinds.Refusal) → number_of e ≡ write_number g r v → number_of e ≡ net_write_number net k r v
+  card_refuses e h = write_asked net k p q r v g u _ refl _ refl (number_of e) (stands e (write_number g r v) DUPLICATE (duplicate net k r v) h)
+
+  pub then_duplicate : write_number g r v ≡ 0 → (d : Bool) → d ≡ duplicate net k r v → (m : ℕ) → m ≡ refuse DONE DUPLICATE d → m ≡ net_write_number net k r v
+  then_duplicate z d j m h = write_asked net k p q r v g u _ refl d j m (rw z h)

@@ -61,8 +61,14 @@ module _ (a b : List numbers.Refusal) where
 pub refused_keeps : {A : Type 0} (e : Refusal) (n : ℕ) (x y : A) → number_of e ≡ n → y ≡ pick (eqb n DONE) x y
 refused_keeps e n x y h = rw (← h, not_done e)
 
+pub is_done : {B : Type 0} (r : Result B Refusal) (v : B) (n : ℕ) → r ≡ Ok v → number r ≡ n → n ≡ DONE
+is_done r v n w h = sym h ∙ ap number w
+
+pub is_refused : {B : Type 0} (r : Result B Refusal) (e : Refusal) (n : ℕ) → r ≡ Err e → number r ≡ n → n ≡ DONE → ⊥
+is_refused r e n w h z = eqb-false (number_of e) DONE (not_done e) (sym (ap number w) ∙ h ∙ z)
+
 pub done_goes : {A B : Type 0} (r : Result B Refusal) (v : B) (n : ℕ) (s x y : A) → r ≡ Ok v → number r ≡ n → s ≡ x → s ≡ pick (eqb n DONE) x y
-done_goes r v n s x y w h p = let z : n ≡ DONE = sym h ∙ ap number w in rw z p
+done_goes r v n s x y w h p = rw (is_done r v n w h) p
 
 -- a test that was passed does not hold
 pub passed_not : {A : Type 0} (r : Result A Refusal) (v : A) (e : Refusal) (t : Bool) → r ≡ Ok v → number r ≡ refuse DONE (number_of e) t → t ≡ false
