@@ -19,33 +19,30 @@ pub enum Command {
     Clear(Way),
 }
 
-// A legal byte, and its command with its page.
-#[derive(Clone, Copy)]
-struct Legal(u8, Command);
-
-const LEGAL: [Legal; 22] = [
-    Legal(0x01, Command::Disable(Way::Transmit)),
-    Legal(0x02, Command::Disable(Way::Receive)),
-    Legal(0x03, Command::Enable(Way::Transmit, 0)),
-    Legal(0x0b, Command::Enable(Way::Transmit, 2)),
-    Legal(0x23, Command::Enable(Way::Transmit, 1)),
-    Legal(0x2b, Command::Enable(Way::Transmit, 3)),
-    Legal(0x04, Command::Enable(Way::Receive, 0)),
-    Legal(0x0c, Command::Enable(Way::Receive, 2)),
-    Legal(0x24, Command::Enable(Way::Receive, 1)),
-    Legal(0x2c, Command::Enable(Way::Receive, 3)),
-    Legal(0x84, Command::Enable(Way::Receive, BROADCASTS | 0)),
-    Legal(0x8c, Command::Enable(Way::Receive, BROADCASTS | 2)),
-    Legal(0xa4, Command::Enable(Way::Receive, BROADCASTS | 1)),
-    Legal(0xac, Command::Enable(Way::Receive, BROADCASTS | 3)),
-    Legal(0x05, Command::LongPackets(0)),
-    Legal(0x0d, Command::LongPackets(1)),
-    Legal(0x06, Command::ClearFlags(false, false)),
-    Legal(0x0e, Command::ClearFlags(true, false)),
-    Legal(0x16, Command::ClearFlags(false, true)),
-    Legal(0x1e, Command::ClearFlags(true, true)),
-    Legal(0x00, Command::Clear(Way::Transmit)),
-    Legal(0x08, Command::Clear(Way::Receive)),
+// The legal bytes, and the command of each with its page.
+const LEGAL: [(u8, Command); 22] = [
+    (0x01, Command::Disable(Way::Transmit)),
+    (0x02, Command::Disable(Way::Receive)),
+    (0x03, Command::Enable(Way::Transmit, 0)),
+    (0x0b, Command::Enable(Way::Transmit, 2)),
+    (0x23, Command::Enable(Way::Transmit, 1)),
+    (0x2b, Command::Enable(Way::Transmit, 3)),
+    (0x04, Command::Enable(Way::Receive, 0)),
+    (0x0c, Command::Enable(Way::Receive, 2)),
+    (0x24, Command::Enable(Way::Receive, 1)),
+    (0x2c, Command::Enable(Way::Receive, 3)),
+    (0x84, Command::Enable(Way::Receive, BROADCASTS | 0)),
+    (0x8c, Command::Enable(Way::Receive, BROADCASTS | 2)),
+    (0xa4, Command::Enable(Way::Receive, BROADCASTS | 1)),
+    (0xac, Command::Enable(Way::Receive, BROADCASTS | 3)),
+    (0x05, Command::LongPackets(0)),
+    (0x0d, Command::LongPackets(1)),
+    (0x06, Command::ClearFlags(false, false)),
+    (0x0e, Command::ClearFlags(true, false)),
+    (0x16, Command::ClearFlags(false, true)),
+    (0x1e, Command::ClearFlags(true, true)),
+    (0x00, Command::Clear(Way::Transmit)),
+    (0x08, Command::Clear(Way::Receive)),
 ];
 
 // The command of a byte, where it is legal.
