@@ -201,9 +201,8 @@ fn write_header(net: &mut [u8], n: usize)
     requires n_bound { n < 256 }
     ensures { net.new ≡ mark ++ (1 ∷ n ∷ replicate 12 0) ++ drop header_bytes net.old }
 {
-    card::row::fill_zero(&mut net[0..HEADER]);
-    net[0] = MARK[0];
-    net[1] = MARK[1];
+    net[0..HEADER].fill(0);
+    net[0..2].copy_from_slice(&MARK);
     net[2] = 1;
     net[3] = n as u8;
 }

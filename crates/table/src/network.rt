@@ -22,10 +22,11 @@ pub const TAKEN: u8 = 2;
 // The fixed bytes that a network begins with.
 pub(crate) const MARK: [u8; 2] = *b"\x41\x4e";
 
+// Kept: docs/STATEMENTS.md names it, with what it promises.
 pub fn wide(x: u8) -> usize
     ensures { (result ≡ x) × (result < 256) }
 {
-    x as usize
+    usize::from(x)
 }
 
 // The number of rows that the header names.
@@ -33,7 +34,7 @@ pub fn rows(net: &[u8]) -> usize
     requires { header_bytes ≤ length net.now }
     ensures { (result ≡ rows net.now) × (result < 256) }
 {
-    wide(net[3])
+    usize::from(net[3])
 }
 
 pub fn phase(net: &[u8]) -> u8
@@ -48,7 +49,7 @@ pub fn holder(net: &[u8]) -> usize
     requires { header_bytes ≤ length net.now }
     ensures { (result ≡ holder net.now) × (result < 256) }
 {
-    wide(net[5])
+    usize::from(net[5])
 }
 
 // Where row k starts: the rows before it are walked over.
@@ -68,7 +69,7 @@ pub fn row_end(net: &[u8], a: usize) -> usize
     requires { a + row_size (drop a net.now) ≤ length net.now }
     ensures { (result ≡ a + row_size (drop a net.now)) × (result ≤ length net.now) }
 {
-    a + card::row::size(&net[a..net.len()])
+    a + card::row::size(&net[a..])
 }
 
 // The row that starts at a. Whoever goes over all rows carries a along, and walks once.
@@ -154,7 +155,7 @@ fn rows_end(net: &[u8], n: usize) -> bool
 {
     let mut a = HEADER;
     for _ in 0..n {
-        let size = card::row::size(&net[a..net.len()]);
+        let size = card::row::size(&net[a..]);
         if net.len() - a < size {
             return false;
         }
@@ -168,8 +169,7 @@ fn header_fits(net: &[u8]) -> bool
     ensures { result ≡ header_fits net.now }
 {
     let n = rows(net);
-    (net[0] == MARK[0])
-        & (net[1] == MARK[1])
+    net.starts_with(&MARK)
         & (net[2] == 1)
         & (0 < n)
         & (n <= ROWS)

@@ -1,16 +1,18 @@
 -- What a well formed header says, part by part, and what makes one.
 -- Assumes nothing.
 use mathlib.Core.Path.{◌≡◌, sym, ◌∙◌, ap}
-use mathlib.Core.Bool.{Bool, true, ◌&&◌}
+use mathlib.Core.Bool.{Bool, true, false, ◌&&◌}
 use mathlib.Core.List.{List, [], ◌∷◌}
+use mathlib.Core.Logic.{⊎_elim}
 use Prim.Native.Nat.{ℕ, ◌+◌, ◌≤◌, ◌<◌}
 use native.Mathlib.Omega.{arith}
 use lib.Dec.{eqb, leb, ltb, lit<}
 use lib.ListN.{length, get_or, take, drop, length-drop}
 use lib.Seq.{length-take-le, get_or-take, get_or-drop, ext_get_or}
-use borrow.Author.Tests.{eqb-true, eq-eqb, ltb-true, lt-ltb, leb-true, le-leb}
+use borrow.Author.Tests.{eqb-true, eqb-false, eq-eqb, ne_eqb, ltb-true, lt-ltb, leb-true, le-leb}
+use Rattle.std.specs.List.{starts_with}
 use Rattle.card.specs.Row.{zeros}
-use Rattle.bits.proofs.Words.Bools.{holds}
+use Rattle.bits.proofs.Words.Bools.{holds, cases, and_true}
 use Rattle.table.specs.Rows.{header_bytes, row_start, rows_end}
 use Rattle.table.specs.Network.{mark, row_limit, rows, phase, header_fits}
 use Rattle.table.proofs.Rows.Starts.{start_least}
@@ -73,13 +75,20 @@ header_kept net new t l e p =
         get_or-take 10 (drop 6 new) i 0 h ∙ get_or-drop 6 new i 0 ∙ e (6 + i) (omega arith) (λ q. omega arith) (λ q. omega arith)
         ∙ sym (get_or-take 10 (drop 6 net) i 0 h ∙ get_or-drop 6 net i 0))
 
--- the header as the code asks it
-pub header_asked : (net : List ℕ) (n : ℕ) → n ≡ rows net → (p : ℕ) → p ≡ phase net
+-- the mark, and the header, as the code asks them
+same_back : (x y : ℕ) → eqb x y ≡ eqb y x
+same_back x y = ⊎_elim (λ t. t ∙ sym (eq-eqb y x (sym (eqb-true x y t)))) (λ f. f ∙ sym (ne_eqb y x (λ e. eqb-false x y f (sym e)))) (cases (eqb x y))
+
+pub mark_asked : (net : List ℕ) → header_bytes ≤ length net → starts_with eqb net mark ≡ (eqb (get_or net 0 0) (get_or mark 0 0) && eqb (get_or net 1 0) (get_or mark 1 0))
+mark_asked [] h = absurd (omega (arith, h))
+mark_asked (x ∷ []) h = absurd (omega (arith, h))
+mark_asked (x ∷ y ∷ l) h = rw (same_back 0x41 x, same_back 0x4e y, and_true)
+
+pub header_asked : (net : List ℕ) → header_bytes ≤ length net → (n : ℕ) → n ≡ rows net → (p : ℕ) → p ≡ phase net → (m : Bool) → m ≡ starts_with eqb net mark
     → (z : Bool) → z ≡ zeros (take 10 (drop 6 net)) → (a : Bool) → a ≡ rows_end net n
-    → (eqb (get_or net 0 0) (get_or mark 0 0) && eqb (get_or net 1 0) (get_or mark 1 0) && eqb (get_or net 2 0) 1 && ltb 0 n && leb n row_limit
-    && ltb p 3 && z && a) ≡ header_fits net
+    → (m && eqb (get_or net 2 0) 1 && ltb 0 n && leb n row_limit && ltb p 3 && z && a) ≡ header_fits net
 unfolding header_fits
-header_asked net n d p q z e a f = rw (f, d, q, e)
+header_asked net h n d p q m k z e a f = rw (f, d, q, e, k, mark_asked net h)
 
 -- what the code learns of the length where it does not refuse the header
 pub header_told : (net : List ℕ) (b : Bool) → b ≡ header_fits net → b ≡ true → row_start net (rows net) ≤ length net
