@@ -1,4 +1,6 @@
 // Document 01, "The saved network": the header, a row's part, and the test SHAPE. A row starts where the one before it ends.
+// Kept: a row is a part of lent bytes, and that it stands whole in them is a `requires`, not a type's invariant:
+// docs/STATEMENTS.md names these functions with the bytes that they take.
 ghost use Rattle.std.specs.Prelude.{◌≡◌, suc, ◌+◌, ◌≤◌, ◌<◌, length, take, drop};
 ghost use Rattle.places.specs.Places.{onward};
 ghost use Rattle.card.specs.Row.{register_bytes, row_size, Whole, put_regs};
@@ -13,6 +15,7 @@ pub const HEADER: usize = 16;
 
 pub const ROWS: usize = 60;
 
+// Kept: a phase is a byte: `phase` and `turn` give and take any, as docs/STATEMENTS.md has them.
 pub const LOST: u8 = 0;
 
 pub const PASS: u8 = 1;
@@ -134,7 +137,7 @@ pub fn node_of(net: &[u8], id: u8, except: usize, n: usize) -> Option<usize>
     None
 }
 
-// The highest ID on line.
+// The highest ID on line. Kept: the search starts at 0, which no row on line has for its ID (docs/DECISIONS.md, 27).
 pub fn top_id(net: &[u8], n: usize) -> Option<u8>
     requires { row_start net.now n ≤ length net.now }
     ensures { result ≡ not_zero (top_id net.now n) }
