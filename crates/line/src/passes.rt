@@ -1,14 +1,16 @@
 // What reaches the rows in a line step (document 01): an event that reaches every row, other registers for one row,
 // and a packet for the rows that take it.
 ghost use Rattle.std.specs.Prelude.{◌≡◌, ℕ, true, ◌≤◌, ◌<◌, length, is_none, unwrap_or};
-ghost use Rattle.card.specs.Row.{register_bytes, Whole, well_formed};
-ghost use Rattle.table.specs.Network.{rows, on_regs, shape};
-ghost use Rattle.line.specs.Traffic.{happens, happened, takes, carried_row, carried};
+ghost use Rattle.card.specs.Row.{register_bytes, Whole, put_regs, well_formed};
+ghost use Rattle.registers.specs.declared.regs.Regs.{Regs};
+ghost use Rattle.table.specs.Rows.{row_at, set_row};
+ghost use Rattle.table.specs.Network.{rows, on_regs, regs_at, shape};
+ghost use Rattle.line.specs.Traffic.{HasRow, happens, happened, takes, carried_row, carried};
 
 use bits::way::Way;
 use card::packets::Packet;
 use registers::regs::Regs;
-use table::network::rows;
+use table::network::{put_regs, regs_at, rows};
 use table::walk::each_row_mut;
 
 // What reaches every row at once.
@@ -27,12 +29,7 @@ fn happens(g: Regs, k: usize, event: Event) -> Regs
 {
     match event {
         Event::Recovery => g.recovered(),
-        Event::Message(h, token) => {
-            if k == h {
-                return g;
-            }
-            g.heard(token)
-        }
+        Event::Message(h, token) => { if k == h { g } else { g.heard(token) } }
         Event::Taken(id, taker) => g.answered(id, k == taker),
     }
 }
@@ -54,6 +51,17 @@ pub(crate) fn happen(net: &mut [u8], event: Event)
 {
     let n = rows(net);
     each_row_mut(net, n, |k, row| happen_row(row, k, event));
+}
+
+// Row k is given the registers that f makes of its own.
+#[tactic(auto, using(crate::proofs::Rooms::rooms))]
+pub(crate) fn on_row<F: FnOnce(Regs) -> Regs>(net: &mut [u8], k: usize, f: F)
+    requires row { HasRow net.old k }
+    requires accepts { F.IsAlwaysCallable f }
+    ensures { (g : Regs) × F.post f (regs_at net.old k) g × (net.new ≡ set_row net.old k (put_regs (row_at net.old k) g)) }
+{
+    let g = f(regs_at(net, k));
+    put_regs(net, k, g);
 }
 
 // A packet that row h sent to row `to`; a broadcast is sent to no one row.

@@ -6,10 +6,10 @@ ghost use Rattle.line.specs.Answers.{said, answered};
 ghost use Rattle.line.specs.Traffic.{HasRow};
 ghost use Rattle.line.specs.Step.{answer_value, lost_turn, pass_turn, step_turn, step_number, step};
 
-use crate::passes::{Event, happen};
+use crate::passes::{Event, happen, on_row};
 use crate::traffic::{Outcome, taken};
 use table::network::{
-    LOST, PASS, TAKEN, holder, node_of, phase, put_regs, regs_at, rows, shape, top_id, turn,
+    LOST, PASS, TAKEN, holder, node_of, phase, regs_at, rows, shape, top_id, turn,
 };
 use told::refusals::Refusal;
 
@@ -76,8 +76,7 @@ fn pass(net: &mut [u8], fault: usize) -> Answer
     let taker = node_of(net, id, h, rows(net));
     happen(net, Event::Message(h, true));
     let Some(t) = taker else {
-        let g = regs_at(net, h).risen_nid();
-        put_regs(net, h, g);
+        on_row(net, h, |g| g.risen_nid());
         return Answer::Unanswered(id);
     };
     happen(net, Event::Taken(id, t));
@@ -93,17 +92,16 @@ pub fn step_on(net: &mut [u8], fault: usize) -> Answer
     ensures answer { said result ≡ (step_turn net.old fault).answer }
     ensures bytes { net.new ≡ (step_turn net.old fault).after }
 {
-    let now = phase(net);
-    if now == LOST {
-        return lost(net);
+    match phase(net) {
+        LOST => lost(net),
+        PASS => pass(net, fault),
+        _ => {
+            let h = holder(net);
+            let outcome = taken(net, h, fault);
+            turn(net, PASS, h as u8);
+            Answer::Held(outcome)
+        }
     }
-    if now == PASS {
-        return pass(net, fault);
-    }
-    let h = holder(net);
-    let outcome = taken(net, h, fault);
-    turn(net, PASS, h as u8);
-    Answer::Held(outcome)
 }
 
 // SHAPE and VALUE.

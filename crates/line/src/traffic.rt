@@ -7,7 +7,7 @@ ghost use Rattle.table.specs.Rows.{row_at};
 ghost use Rattle.table.specs.Network.{rows, shape};
 ghost use Rattle.line.specs.Traffic.{HasRow, stamped_net, went_out, asked, broadcast_turn, packet_turn, enquiry_turn, try_turn, taken_turn};
 
-use crate::passes::{Event, SentPacket, happen};
+use crate::passes::{Event, SentPacket, happen, on_row};
 use bits::way::Way;
 use card::packets::Shape;
 use table::network::{node_of, put_regs, regs_at, row_at, row_end, row_start, rows};
@@ -32,8 +32,7 @@ fn asked(net: &mut [u8], h: usize, nak: bool)
     ensures { net.new ≡ asked net.old h nak }
 {
     happen(net, Event::Message(h, false));
-    let g = regs_at(net, h).enquired(nak);
-    put_regs(net, h, g);
+    on_row(net, h, |g| g.enquired(nak));
 }
 
 // A packet that waits in a page of row h, and the fault of the step in which it is tried.
@@ -97,8 +96,7 @@ impl Sending {
         let stored = (self.fault != 1) & shape.storable(regs_at(net, t));
         let acknowledged = stored & (self.fault != 2);
         self.send(net, Some(t));
-        let g = regs_at(net, self.h).heard(false).sent(acknowledged);
-        put_regs(net, self.h, g);
+        on_row(net, self.h, |g| g.heard(false).sent(acknowledged));
         if acknowledged {
             return Outcome::Delivered(t, shape);
         }
@@ -132,8 +130,7 @@ impl Sending {
     {
         let shape = self.shape(net);
         self.send(net, None);
-        let g = regs_at(net, self.h).sent(false);
-        put_regs(net, self.h, g);
+        on_row(net, self.h, |g| g.sent(false));
         Outcome::Broadcast(shape)
     }
 
@@ -145,8 +142,7 @@ impl Sending {
         ensures bytes { net.new ≡ (try_turn net.old self.h self.page self.fault).after }
     {
         if self.shape(net).malformed() {
-            let g = regs_at(net, self.h).sent(false);
-            put_regs(net, self.h, g);
+            on_row(net, self.h, |g| g.sent(false));
             return Outcome::Malformed;
         }
         let id = card::packets::destination(row_at(net, self.h), self.page);
