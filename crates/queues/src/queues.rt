@@ -2,7 +2,6 @@
 ghost use Rattle.std.specs.Prelude.{◌≡◌};
 ghost use Rattle.queues.specs.Queues.{none, free_flag, waiting, second_flag, two, full, uncleared, stored, shows, completed, cleared, lowered, enabled, disabled, gone, ended, second_cancelled, cancelled, fit};
 
-use bits::choice::choose;
 use bits::flags::{CANCEL, LOW2, RI, TA, TMA};
 use bits::way::Way;
 
@@ -49,8 +48,8 @@ fn stored(way: Way, acknowledged: bool) -> u8
     ensures { result ≡ stored way acknowledged }
 {
     match way {
-        Way::Transmit => choose(acknowledged, KEPT | 2, 2),
-        Way::Receive => 2,
+        Way::Transmit if acknowledged => KEPT | 2,
+        _ => 2,
     }
 }
 
@@ -58,9 +57,10 @@ fn stored(way: Way, acknowledged: bool) -> u8
 fn shows(way: Way, acknowledged: bool, status: u8) -> u8
     ensures { result ≡ shows way acknowledged status }
 {
-    match way {
-        Way::Transmit => choose(acknowledged, status | TMA, status & !TMA),
-        Way::Receive => status,
+    match (way, acknowledged) {
+        (Way::Transmit, true) => status | TMA,
+        (Way::Transmit, false) => status & !TMA,
+        (Way::Receive, _) => status,
     }
 }
 
@@ -95,7 +95,8 @@ impl Queue {
         ensures { result ≡ lowered way self }
     {
         match way {
-            Way::Transmit => choose(self.uncleared(), TA, TA | TMA),
+            Way::Transmit if self.uncleared() => TA,
+            Way::Transmit => TA | TMA,
             Way::Receive => RI,
         }
     }
@@ -172,7 +173,9 @@ impl Side {
             return self;
         }
         self.status = shows(way, acknowledged, self.status);
-        self.queue.done = choose(chaining, 1, self.queue.done);
+        if chaining {
+            self.queue.done = 1;
+        }
         self
     }
 
@@ -187,7 +190,9 @@ impl Side {
     fn second_cancelled(mut self) -> Side
         ensures { result ≡ second_cancelled self }
     {
-        self.queue.second = choose(self.queue.second & CANCEL == 0, self.queue.second, 0);
+        if self.queue.second & CANCEL != 0 {
+            self.queue.second = 0;
+        }
         self
     }
 
@@ -210,7 +215,7 @@ impl Side {
     {
         if self.queue.uncleared() {
             self.status = shows(way, self.queue.done & KEPT != 0, self.status);
-            self.queue.done = choose(self.queue.done & 2 != 0, 1, 0);
+            self.queue.done = if self.queue.done & 2 != 0 { 1 } else { 0 };
         }
         self
     }

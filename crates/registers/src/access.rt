@@ -80,12 +80,23 @@ impl Regs {
     fn shown(self) -> u8
         ensures { result ≡ shown self }
     {
-        let flags = self.status & (POR | RECON | TMA);
-        let flags = choose(self.transmit.uncleared(), flags | TTA, flags);
-        let flags = choose(self.status & TA != 0, flags | SHOWN_TA, flags);
-        let flags = choose(self.status & RI != 0, flags | SHOWN_RI, flags);
-        let flags = choose(self.receive.uncleared(), flags | TRI, flags);
-        choose(self.chaining(), flags, self.status)
+        if !self.chaining() {
+            return self.status;
+        }
+        let mut flags = self.status & (POR | RECON | TMA);
+        if self.transmit.uncleared() {
+            flags |= TTA;
+        }
+        if self.status & TA != 0 {
+            flags |= SHOWN_TA;
+        }
+        if self.status & RI != 0 {
+            flags |= SHOWN_RI;
+        }
+        if self.receive.uncleared() {
+            flags |= TRI;
+        }
+        flags
     }
 
     // What a read of a register gives.

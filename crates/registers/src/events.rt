@@ -3,7 +3,6 @@ ghost use Rattle.std.specs.Prelude.{◌≡◌};
 ghost use Rattle.registers.specs.Events.{burst, recovered, heard, answered, risen_nid, cancelled, sent, enquired, received, waits, takes_broadcasts, page};
 
 use crate::regs::Regs;
-use bits::choice::choose;
 use bits::flags::{BROADCASTS, CANCEL, DUPID, MYRECON, RCVACT, RECON, TENTID, TOKEN};
 use bits::way::Way;
 
@@ -18,16 +17,18 @@ impl Regs {
     }
 
     // The line recovers.
-    #[tactic(auto, unfolding(crate::specs::Events::recovered))]
-    pub fn recovered(self) -> Regs
+    #[tactic(auto, unfolding(crate::specs::Events::recovered, crate::specs::Fit::awake, crate::specs::Fit::on_line))]
+    pub fn recovered(mut self) -> Regs
         ensures { result ≡ recovered self }
     {
-        Regs {
-            status: choose(self.awake(), self.status | RECON, self.status),
-            // The lap starts at the row's own ID, which it does not answer itself.
-            nid: choose(self.on_line(), self.id, self.nid),
-            ..self
+        if self.awake() {
+            self.status |= RECON;
         }
+        // The lap starts at the row's own ID, which it does not answer itself.
+        if self.on_line() {
+            self.nid = self.id;
+        }
+        self
     }
 
     // Another card's message is heard: an invitation (`token`), or another one.

@@ -4,7 +4,6 @@ ghost use Rattle.bits.specs.Words.{all};
 ghost use Rattle.registers.specs.Naks.{low_first, up_to_limit, nak_counted, naks_dropped, nak_rules};
 
 use crate::regs::{Later, Regs};
-use bits::choice::choose;
 use bits::flags::{EXCNAK, TA};
 
 // How many NAKs are too many (000, diagnostic status).
@@ -27,37 +26,28 @@ impl Later {
 
 impl Regs {
     // A NAK more; the count stays at the limit, where EXCNAK is set.
-    pub(crate) fn nak_counted(self) -> Regs
+    pub(crate) fn nak_counted(mut self) -> Regs
         ensures { result ≡ nak_counted self }
     {
         let naks = up_to_limit(self.later.naks() + 1);
-        Regs {
-            diagnostic: choose(naks == NAK_LIMIT, self.diagnostic | EXCNAK, self.diagnostic),
-            later: Later {
-                naklow: naks,
-                nakhigh: 0,
-                ..self.later
-            },
-            ..self
+        if naks == NAK_LIMIT {
+            self.diagnostic |= EXCNAK;
         }
+        self.later.naklow = naks;
+        self.later.nakhigh = 0;
+        self
     }
 
     // Where `drop`, nothing is counted any more, and EXCNAK is clear.
-    pub(crate) fn naks_dropped(self, drop: bool) -> Regs
+    pub(crate) fn naks_dropped(mut self, drop: bool) -> Regs
         ensures { result ≡ naks_dropped drop self }
     {
-        if !drop {
-            return self;
+        if drop {
+            self.diagnostic &= !EXCNAK;
+            self.later.naklow = 0;
+            self.later.nakhigh = 0;
         }
-        Regs {
-            diagnostic: self.diagnostic & !EXCNAK,
-            later: Later {
-                naklow: 0,
-                nakhigh: 0,
-                ..self.later
-            },
-            ..self
-        }
+        self
     }
 
     // The count agrees with TA and with EXCNAK.
@@ -66,9 +56,8 @@ impl Regs {
     {
         let naks = self.later.naks();
         let limit = NAK_LIMIT as usize;
-        let excess = self.diagnostic & EXCNAK;
         (naks <= limit)
             & ((naks == 0) | (self.status & TA == 0))
-            & choose(naks == limit, excess != 0, excess == 0)
+            & ((naks == limit) == (self.diagnostic & EXCNAK != 0))
     }
 }

@@ -4,7 +4,6 @@ ghost use Rattle.std.specs.Prelude.{◌≡◌};
 ghost use Rattle.registers.specs.Fit.{awake, on_line, fit};
 ghost use Rattle.registers.specs.Registers.{hardware_reset, interrupt};
 
-use bits::choice::choose;
 use bits::flags::{
     DIAGNOSTIC, EXCNAK, LOW2, MASK, MODE, POR, RECON, RESET, RI, SETUP, STATUS, TA, TXEN,
 };
@@ -101,9 +100,11 @@ impl Regs {
     pub fn interrupt(self) -> bool
         ensures { result ≡ interrupt self }
     {
-        let chaining = self.chaining();
-        let received = choose(chaining, self.receive.uncleared(), self.status & RI != 0);
-        let sent = choose(chaining, self.transmit.uncleared(), self.status & TA != 0);
+        let (received, sent) = if self.chaining() {
+            (self.receive.uncleared(), self.transmit.uncleared())
+        } else {
+            (self.status & RI != 0, self.status & TA != 0)
+        };
         (self.status & POR != 0)
             | received & (self.mask & RI != 0)
             | (self.status & RECON != 0) & (self.mask & RECON != 0)
