@@ -3,7 +3,6 @@ pub mod Places
 pub mod Sizes
 pub mod Packets
 pub mod Stored
-pub mod Carried
 pub mod Waiting
 pub mod Refused
 pub mod Same

@@ -1,6 +1,7 @@
 -- Document 01, "The saved network": a row, its register bytes, and when it is well formed.
 -- Assumes nothing.
-use Rattle.std.specs.Prelude.{◌≡◌, Bool, true, ◌&&◌, List, [], ◌∷◌, ℕ, ◌+◌, ◌-◌, eqb, length, get_or, take, drop}
+use Rattle.std.specs.Prelude.{◌≡◌, Bool, ◌&&◌, List, [], ◌∷◌, ℕ, ◌+◌, ◌-◌, eqb, length, get_or, take, drop}
+use Rattle.std.specs.List.{list_all}
 use Rattle.std.proofs.lemmas.List.Edits.{sets}
 use Rattle.registers.specs.declared.regs.Regs.{Regs}
 use Rattle.registers.specs.Registers.{ram_bytes}
@@ -53,8 +54,7 @@ put_regs r g = sets (sets r at_id (bytes_of g)) at_fetched (later_of g)
 
 -- "16-63 zero", but where registers are
 unfoldable pub zeros : List ℕ → Bool
-zeros [] = true
-zeros (x ∷ l) = eqb x 0 && zeros l
+zeros = list_all (λ x. eqb x 0)
 
 abbrev pub stretch : ℕ → ℕ → List ℕ → List ℕ
 stretch a b r = take (b - a) (drop a r)

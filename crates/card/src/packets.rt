@@ -10,6 +10,7 @@ use registers::regs::Regs;
 use told::refusals::Refusal;
 
 // What a page holds, and the COUNT byte of a packet: the page offset at which its data start.
+// Kept: the cases are document 01's, two with a COUNT; the definitions give the sizes of a malformed page as 0.
 #[derive(Clone, Copy, Debug, PartialEq, Eq)]
 pub enum Shape {
     Malformed,
@@ -18,14 +19,14 @@ pub enum Shape {
 }
 
 // A page of a row: where in the row it starts, and whether it may be long.
-#[derive(Clone, Copy)]
+#[derive(Clone, Copy, PartialEq, Eq)]
 pub struct Page {
     pub at: usize,
     pub long: bool,
 }
 
 // A packet that was read out of a page: the page's bytes, and zeros up to 512.
-#[derive(Clone, Copy)]
+#[derive(Clone, Copy, PartialEq, Eq)]
 pub struct Packet {
     pub shape: Shape,
     pub bytes: [u8; 512],
@@ -49,11 +50,7 @@ impl Shape {
     pub fn malformed(self) -> bool
         ensures { result ≡ malformed self }
     {
-        match self {
-            Shape::Malformed => true,
-            Shape::Short(_) => false,
-            Shape::Long(_) => false,
-        }
+        matches!(self, Shape::Malformed)
     }
 
     // N, the number of data bytes.
@@ -62,8 +59,8 @@ impl Shape {
     {
         match self {
             Shape::Malformed => 0,
-            Shape::Short(count) => 256 - (count as usize),
-            Shape::Long(count) => 512 - (count as usize),
+            Shape::Short(count) => 256 - count as usize,
+            Shape::Long(count) => 512 - count as usize,
         }
     }
 
@@ -73,8 +70,7 @@ impl Shape {
     {
         match self {
             Shape::Malformed => 0,
-            Shape::Short(count) => count as usize,
-            Shape::Long(count) => count as usize,
+            Shape::Short(count) | Shape::Long(count) => count as usize,
         }
     }
 
@@ -112,12 +108,15 @@ impl Shape {
     }
 }
 
+// Kept: `Whole` and `page < 4` stand at each function of a row and a page, since the public ones keep their clauses (`page_shape`, `destination`, `packet_at`, `store_packet`, `stamp`).
+
 // A page by its number: the one place that knows how long pages are, and which may be long.
-#[tactic(auto, using(crate::proofs::Rows::Sizes::whole_registers))]
+#[tactic(auto, using(crate::proofs::Rows::Sizes::whole_registers, crate::proofs::Rows::Sizes::whole_long), unfolding(crate::specs::Packets::page_of))]
 fn page_of(row: &[u8], page: usize) -> Page
     requires whole { Whole row.now }
     requires page_bound { page < 4 }
-    ensures { (result ≡ page_of row.now page) × (result.at + 256 ≤ length row.now) }
+    ensures page { result ≡ page_of row.now page }
+    ensures room { result.at + 256 ≤ length row.now }
 {
     let g = load(row);
     Page {
@@ -146,7 +145,8 @@ pub fn destination(row: &[u8], page: usize) -> u8
     row[page_of(row, page).at + 1]
 }
 
-// The data of a page: that stretch of the row itself, of length 0 where the call below gives a number.
+// The data of a page: that stretch of the row itself, of length 0 where the call below refuses.
+#[tactic(auto, using(crate::proofs::Pages::Refused::page_refused, crate::proofs::Pages::Sizes::data_fits), unfolding(crate::specs::Packets::page_data, places::specs::Places::onward))]
 pub fn page_data(row: &[u8], page: usize) -> &[u8]
     requires { Whole row.now }
     ensures bytes { result.now ≡ page_data row.now page }
@@ -174,6 +174,7 @@ pub fn may_read_data(row: &[u8], page: usize) -> Result<(), Refusal>
 }
 
 // The packet of a page is read out of the row.
+#[tactic(auto, using(crate::proofs::Pages::Sizes::page_fits), unfolding(crate::specs::Packets::packet_at))]
 pub fn packet_at(row: &[u8], page: usize) -> Packet
     requires whole { Whole row.now }
     requires page_bound { page < 4 }
@@ -187,27 +188,27 @@ pub fn packet_at(row: &[u8], page: usize) -> Packet
     Packet { shape, bytes }
 }
 
-// The bytes from .. to of a packet go to the same offsets of the page that starts at `at`.
-fn lay(row: &mut [u8], at: usize, bytes: &[u8], from: usize, to: usize)
-    requires { (from ≤ to) × ((to ≤ length bytes.now) × (at + to ≤ length row.old)) }
-    ensures { row.new ≡ laid (at + from) (take (to - from) (drop from bytes.now)) row.old }
+// The bytes take the place of as many from `at` on.
+fn lay(row: &mut [u8], at: usize, bytes: &[u8])
+    requires { at + length bytes.now ≤ length row.old }
+    ensures { row.new ≡ laid at bytes.now row.old }
 {
-    row[at + from..at + to].copy_from_slice(&bytes[from..to]);
+    row[at..at + bytes.len()].copy_from_slice(bytes);
 }
 
 // A packet is stored at the same offsets of a page; the gap between its head and its data is untouched.
+#[tactic(auto, unfolding(crate::specs::Packets::stored))]
 pub fn store_packet(row: &mut [u8], page: usize, packet: Packet)
     requires whole { Whole row.old }
     requires page_bound { page < 4 }
     requires shape_in_bounds { page_at row.old page + page_bytes packet.shape ≤ length row.old }
     ensures { row.new ≡ stored row.old (page_at row.old page) packet }
 {
-    let shape = packet.shape;
-    let bytes = packet.bytes;
     let at = page_of(row, page).at;
-    lay(row, at, &bytes, 0, shape.head_bytes());
-    let from = shape.data_at();
-    lay(row, at, &bytes, from, from + shape.data_bytes());
+    lay(row, at, &packet.bytes[..packet.shape.head_bytes()]);
+    let from = packet.shape.data_at();
+    let to = from + packet.shape.data_bytes();
+    lay(row, at + from, &packet.bytes[from..to]);
 }
 
 // The row's own ID is written at byte 0 of a page that is to be sent.

@@ -1,5 +1,5 @@
 // Document 01, "The saved network": a row's part of the lent network, 64 bytes of registers and then 1,024 of RAM.
-ghost use Rattle.std.specs.Prelude.{◌≡◌, ◌≤◌, ◌<◌, length, replicate};
+ghost use Rattle.std.specs.Prelude.{◌≡◌, ◌+◌, ◌≤◌, ◌<◌, length, replicate, slice_index};
 ghost use Rattle.card.specs.Row.{register_bytes, row_bytes, row_size, Whole, regs_of, put_regs, zeros, well_formed};
 ghost use Rattle.card.specs.Access.{accessed, value_read, row_after_read, ram_written, row_after_write, row_after_reset, fresh_row};
 
@@ -21,21 +21,24 @@ pub fn size(row: &[u8]) -> usize
     ROW_BYTES
 }
 
+// A queue in a row: the bytes of the receive queue stand one behind those of the transmit queue.
+fn queue_at(row: &[u8], at: usize) -> Queue
+    requires { at + 5 < length row.now }
+    ensures { result
+        ≡ record { oldest = slice_index row.now at; second = slice_index row.now (at + 3); done = slice_index row.now (at + 5) } }
+{
+    Queue {
+        oldest: row[at],
+        second: row[at + 3],
+        done: row[at + 5],
+    }
+}
+
 #[tactic(auto, unfolding(crate::specs::Row::regs_of))]
 pub fn load(row: &[u8]) -> Regs
     requires { register_bytes ≤ length row.now }
     ensures { result ≡ regs_of row.now }
 {
-    let transmit = Queue {
-        oldest: row[13],
-        second: row[16],
-        done: row[18],
-    };
-    let receive = Queue {
-        oldest: row[14],
-        second: row[17],
-        done: row[19],
-    };
     let later = Later {
         fetched: row[32],
         naklow: row[33],
@@ -53,8 +56,8 @@ pub fn load(row: &[u8]) -> Regs
         high: row[10],
         low: row[11],
         mode: row[12],
-        transmit,
-        receive,
+        transmit: queue_at(row, 13),
+        receive: queue_at(row, 14),
         long: row[15],
         later,
     }
@@ -90,29 +93,18 @@ pub fn store(row: &mut [u8], g: Regs)
 }
 
 // Each byte is zero.
-#[tactic(auto, using(crate::proofs::Words::Zeros::zeros_here, crate::proofs::Words::Zeros::zeros_not, crate::proofs::Words::Zeros::zeros_end))]
+#[tactic(auto, unfolding(crate::specs::Row::zeros))]
 pub fn all_zero(s: &[u8]) -> bool
     ensures { result ≡ zeros s.now }
 {
-    let mut i = 0;
-    while i < s.len() {
-        if s[i] != 0 {
-            return false;
-        }
-        i += 1;
-    }
-    true
+    s.iter().all(|&b| b == 0)
 }
 
 // Each byte becomes zero.
 pub fn fill_zero(s: &mut [u8])
     ensures { s.new ≡ replicate (length s.old) 0 }
 {
-    let mut i = 0;
-    while i < s.len() {
-        s[i] = 0;
-        i += 1;
-    }
+    s.fill(0);
 }
 
 // The row's own well-formedness: its mark, its registers, and zeros in the other bytes up to 63.
@@ -123,7 +115,7 @@ pub fn well_formed(row: &[u8]) -> bool
 {
     let g = load(row);
     let spare = all_zero(&row[20..32]) & all_zero(&row[35..REGISTER_BYTES]);
-    ((row[0] == MARK[0]) & (row[1] == MARK[1])) & g.fit() & spare
+    row.starts_with(&MARK) & g.fit() & spare
 }
 
 // A new row, whatever the bytes were.
@@ -132,8 +124,7 @@ pub fn create(row: &mut [u8])
     ensures { row.new ≡ fresh_row }
 {
     fill_zero(row);
-    row[0] = MARK[0];
-    row[1] = MARK[1];
+    row[0..2].copy_from_slice(&MARK);
     store(row, Regs::hardware_reset());
 }
 
@@ -177,7 +168,7 @@ fn write_ram(row: &mut [u8], register: usize, at: usize, value: u8)
 }
 
 // A register of the card is written; `Regs::write_number` says whether it can be.
-#[tactic(auto, using(crate::proofs::Rows::Sizes::whole_registers, crate::proofs::Rows::Sizes::whole_long), unfolding(crate::specs::Access::row_after_write))]
+#[tactic(auto, using(crate::proofs::Rows::Sizes::whole_registers, crate::proofs::Rows::Sizes::whole_long, crate::proofs::Rows::Accesses::whole_ram), unfolding(crate::specs::Access::row_after_write))]
 pub fn write(row: &mut [u8], register: usize, value: u8)
     requires { Whole row.old }
     ensures { row.new ≡ row_after_write row.old register value }

@@ -7,7 +7,7 @@ use mathlib.Core.List.{List, [], ◌∷◌}
 use Prim.Native.Nat.{ℕ, zero, suc, ◌+◌, ◌-◌, ◌≤◌, ◌<◌}
 use native.Mathlib.Nat.{not-suc-le-zero, add-zero}
 use native.Mathlib.Omega.{arith}
-use borrow.Author.Tests.{leb-true, leb-false}
+use borrow.Author.Tests.{leb-false, lt-leb}
 use lib.Dec.{leb, lit<, lit≤}
 use lib.ListN.{length, get_or, set, drop, length-set, length-drop}
 use lib.Seq.{sets, length-sets, get_or-set_other, get_or-set_same, get_or-take, get_or-drop, ext_get_or, length-take-le}
@@ -43,9 +43,6 @@ pub regs_same : (r s : List ℕ) → ((i : ℕ) → i < register_bytes → get_o
 unfolding regs_of
 regs_same r s e = rw (e 2 (lit< tt), e 3 (lit< tt), e 4 (lit< tt), e 5 (lit< tt), e 6 (lit< tt), e 7 (lit< tt), e 8 (lit< tt), e 9 (lit< tt), e 10 (lit< tt), e 11 (lit< tt), e 12 (lit< tt), e 13 (lit< tt), e 14 (lit< tt), e 15 (lit< tt), e 16 (lit< tt), e 17 (lit< tt), e 18 (lit< tt), e 19 (lit< tt), e 32 (lit< tt), e 33 (lit< tt), e 34 (lit< tt))
 
-pub not_leb : (i b : ℕ) → b < i → leb i b ≡ false
-not_leb i b l = ⊎_elim (λ (t : leb i b ≡ true). absurd (omega (arith, leb-true i b t))) (λ (t : leb i b ≡ false). t) (cases (leb i b))
-
 -- ---- the laws of `put_regs`
 module _ (r : List ℕ) (g : Regs) where
   abbrev first : List ℕ
@@ -68,11 +65,11 @@ module _ (r : List ℕ) (g : Regs) where
           (λ (t : leb a i ≡ false). below i l a vs (leb-false a i t)) (cases (leb a i))
 
   pub size_put : SameSize r (put_regs r g)
-  size_put = size_of r (put_regs r g) length_put (λ x b. put_rest x (rw (not_leb at_id x (omega arith), not_leb at_fetched x (omega arith))))
+  size_put = size_of r (put_regs r g) length_put (λ x b. put_rest x (rw (lt-leb at_id x (omega arith), lt-leb at_fetched x (omega arith))))
 
   pub put_ram : (i : ℕ) → register_bytes ≤ i → get_or (put_regs r g) i 0 ≡ get_or r i 0
   put_ram i h =
-      put_rest i (rw (not_leb i at_received (omega arith), not_leb i at_nak_high (omega arith), and_false (leb at_id i), and_false (leb at_fetched i)))
+      put_rest i (rw (lt-leb i at_received (omega arith), lt-leb i at_nak_high (omega arith), and_false (leb at_id i), and_false (leb at_fetched i)))
 
   module _ (h : register_bytes ≤ length r) where
     pub put_at : (k : ℕ) → k < 18 → get_or (put_regs r g) (at_id + k) 0 ≡ get_or (bytes_of g) k 0
@@ -136,10 +133,10 @@ module _ (r s : List ℕ) (l : length s ≡ length r) where
       )
     where
       between : (i : ℕ) → 1 + at_received ≤ i → i < at_fetched → held i ≡ false
-      between i a b = rw (not_leb i at_received a, not_leb at_fetched i b, and_false (leb at_id i))
+      between i a b = rw (lt-leb i at_received a, lt-leb at_fetched i b, and_false (leb at_id i))
 
       behind : (i : ℕ) → 1 + at_nak_high ≤ i → held i ≡ false
-      behind i a = rw (not_leb i at_received (omega arith), not_leb i at_nak_high a, and_false (leb at_id i), and_false (leb at_fetched i))
+      behind i a = rw (lt-leb i at_received (omega arith), lt-leb i at_nak_high a, and_false (leb at_id i), and_false (leb at_fetched i))
 
   -- a row that differs in its RAM alone
   pub well_same : register_bytes ≤ length r → ((i : ℕ) → i < register_bytes → get_or s i 0 ≡ get_or r i 0) → well_formed s ≡ well_formed r
@@ -155,4 +152,4 @@ well_put r g h w f =
     (spare_same r (put_regs r g) (length_put r g) h (λ i n _. put_rest r g i n) ∙ well_spare r w)
   where
     before : (i : ℕ) → i < 2 → held i ≡ false
-    before i b = rw (not_leb at_id i b, not_leb at_fetched i (omega arith))
+    before i b = rw (lt-leb at_id i b, lt-leb at_fetched i (omega arith))

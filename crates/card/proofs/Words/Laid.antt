@@ -2,27 +2,19 @@
 -- Assumes nothing.
 use mathlib.Core.Path.{◌≡◌, refl, ◌∙◌, ap}
 use mathlib.Core.List.{List, ◌++◌}
-use Prim.Native.Nat.{ℕ, zero, suc, ◌+◌, ◌-◌, ◌≤◌, ◌<◌}
+use Prim.Native.Nat.{ℕ, ◌+◌, ◌-◌, ◌≤◌, ◌<◌}
 use native.Mathlib.Omega.{arith}
-use lib.ListN.{length, get_or, take, drop, replicate, length-drop, length-append, get_or-append}
+use lib.ListN.{length, get_or, take, drop, length-drop, length-append, get_or-append}
 use lib.Seq.{length-take-le, take_at, drop_at, get_or-take, get_or-drop, get_or-append-add}
 use Rattle.card.specs.Packets.{laid}
 
--- the length of a part as the code lends it
-pub part_length : (a n : ℕ) → a + n - a ≡ n
+-- the length of a part that starts at a
+part_length : (a n : ℕ) → a + n - a ≡ n
 part_length a n = omega arith
 
 -- what is cut off a list is within it
 pub length_part : (a n : ℕ) (l : List ℕ) → a + n ≤ length l → length (take n (drop a l)) ≡ n
 length_part a n l h = length-take-le n (drop a l) (rw length-drop (omega arith))
-
-drop_replicate : (n m a : ℕ) → drop n (replicate m a) ≡ replicate (m - n) a
-drop_replicate zero m a = let e : m - 0 ≡ m = omega arith in rw e
-drop_replicate (suc n) zero a = let e : 0 - suc n ≡ 0 = omega arith in rw e
-drop_replicate (suc n) (suc m) a = let e : suc m - suc n ≡ m - n = omega arith in rw e (drop_replicate n m a)
-
-pub zeros_left : (n m : ℕ) (z : List ℕ) → z ≡ replicate m 0 → drop (n - 0) z ≡ replicate (m - n) 0
-zeros_left n m z e = let f : n - 0 ≡ n = omega arith in rw (e, f) (drop_replicate n m 0)
 
 -- a list joined to another, past the first
 past : (l m : List ℕ) (n i : ℕ) → length l ≡ n → n ≤ i → get_or (l ++ m) i 0 ≡ get_or m (i - n) 0

@@ -6,7 +6,7 @@ use mathlib.Core.List.{List, [], ◌∷◌}
 use Prim.Native.Nat.{ℕ, ◌+◌, ◌≤◌, ◌<◌}
 use native.Mathlib.Omega.{arith}
 use lib.Dec.{eqb}
-use borrow.Author.Tests.{ne_eqb}
+use borrow.Author.Tests.{ne_eqb, lt-leb}
 use Rattle.bits.specs.Words.{among}
 use Rattle.registers.specs.Layout.{at_status, at_diagnostic, at_nid}
 use Rattle.registers.specs.Sides.{chaining}
@@ -16,7 +16,6 @@ use Rattle.card.specs.Row.{register_bytes}
 use Rattle.card.specs.Packets.{data_at, page_at}
 use Rattle.card.specs.Moves.{in_packet}
 use Rattle.bits.proofs.Words.Bools.{and_false, or_left, or_right, pick_of}
-use Rattle.card.proofs.Rows.Bytes.{not_leb}
 use Rattle.card.proofs.Pages.Places.{page_behind}
 use Rattle.table.specs.Rows.{row_at}
 use Rattle.table.specs.Network.{phase, holder, LOST, PASS, regs_at}
@@ -28,7 +27,7 @@ module _ (i : ℕ) (low : i < register_bytes) where
   no_ram a h = ne_eqb i a (λ e. omega (arith, h, e))
 
   no_packet : (a : ℕ) (s : Shape) → register_bytes ≤ a → in_packet a s i ≡ false
-  no_packet a s h = rw (not_leb a i (omega (arith, h)), not_leb (a + data_at s) i (omega (arith, h)))
+  no_packet a s h = rw (lt-leb a i (omega (arith, h)), lt-leb (a + data_at s) i (omega (arith, h)))
 
   -- what reaches every row moves others; so does a packet that is stored, and what the holder does
   module _ (apart : among (at_status ∷ at_diagnostic ∷ at_nid ∷ []) i ≡ false) (stored : (c : Bool) → among (storing_bytes c) i ≡ false) where
