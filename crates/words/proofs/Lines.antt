@@ -82,9 +82,9 @@ module _ (stop : ℕ) where
   from_next s zero h = absurd (not-suc-le-zero h)
   from_next s (suc k) h = simp unary_clauses refl
 
-  pub from_here : (s : List ℕ) (from left n : ℕ) → left ≡ 0 → from + part_from stop s left ≡ n → from ≡ n
+  pub from_here : (s : List ℕ) (k : ℕ) → k ≡ 0 → part_from stop s k ≡ 0
   unfolding part_from
-  from_here s from left n z e = let f : from + 0 ≡ n = rw z at e in omega (arith, f)
+  from_here s k z = rw z
 
   module _ (s : List ℕ) (from end : ℕ) (h : from ≤ length s) (e : end ≡ from + length (up_to stop (drop from s))) where
     pub first_here : take (end - from) (drop from s) ≡ up_to stop (drop from s)

@@ -25,11 +25,12 @@ fn part_end(text: &[u8], stop: u8, from: usize) -> usize
 }
 
 // Part k of the text, from 0, of those that `stop` separates; nothing where there is no such part.
-#[tactic(auto, using(crate::proofs::Lines::part_here, crate::proofs::Lines::part_past, crate::proofs::Lines::part_missing, crate::proofs::Lines::from_past), unfolding(places::specs::Places::onward))]
+#[tactic(auto, using(crate::proofs::Lines::part_here, crate::proofs::Lines::from_here, crate::proofs::Lines::part_past, crate::proofs::Lines::part_missing, crate::proofs::Lines::from_past), unfolding(places::specs::Places::onward))]
 pub fn part(text: &[u8], stop: u8, k: usize) -> &[u8]
     ensures bytes { result.now ≡ part stop text.now k }
     ensures place { part_from stop text.now k ≤ length text.now → result.ref_ptr ≡ onward text.entry.ref_ptr (part_from stop text.now k) }
 {
+    // Kept: `place` says where the part stands, and the library's `split` does not.
     let mut from = 0;
     for _ in 0..k {
         let end = part_end(text, stop, from);
@@ -78,8 +79,8 @@ pub fn row<'a>(table: &'a [u8], name: &'a [u8]) -> &'a [u8]
     ensures bytes { result.now ≡ row table.now name.now }
     ensures place { row_from table.now name.now ≤ length table.now → result.ref_ptr ≡ onward table.entry.ref_ptr (row_from table.now name.now) }
 {
+    // Kept: as in `part`, `split` does not say where the line stands. A table has no more lines than bytes.
     let mut from = 0;
-    // A table has no more lines than bytes.
     for _ in 0..table.len() {
         let end = part_end(table, NEWLINE, from);
         let line = &table[from..end];
