@@ -79,7 +79,7 @@ impl Regs {
     }
 
     // What a read of a register is refused with.
-    #[tactic(auto, using(told::proofs::Told::Results::handed_number, told::proofs::Told::Results::stands), unfolding(crate::specs::Refusals::read_refusals))]
+    #[tactic(auto, using(told::proofs::Told::Results::asking), unfolding(crate::specs::Refusals::read_refusals))]
     pub fn may_read(self, register: usize) -> Result<(), Refusal>
         ensures { number result ≡ told (read_refusals self register) }
     {
@@ -88,7 +88,7 @@ impl Regs {
     }
 
     // What a write of a register is refused with.
-    #[tactic(auto, using(told::proofs::Told::Results::handed_number, told::proofs::Told::Results::stands), unfolding(crate::specs::Refusals::write_refusals))]
+    #[tactic(auto, using(told::proofs::Told::Results::asking), unfolding(crate::specs::Refusals::write_refusals))]
     pub fn may_write(self, register: usize, value: u8) -> Result<(), Refusal>
         ensures { number result ≡ told (write_refusals self register value) }
     {

@@ -75,3 +75,7 @@ pub passed_not : {A : Type 0} (r : Result A Refusal) (v : A) (e : Refusal) (t : 
 unfolding refuse
 passed_not r v e false w h = refl
 passed_not r v e true w h = absurd (eqb-false (number_of e) DONE (not_done e) (sym h ∙ ap number w))
+
+-- what the number of a call that asks its refusals in turn is shown by; and what the bytes are that it leaves
+pub ruleset asking = (handed_number, stands, first_stands, then_asked)
+pub ruleset leaving = (handed_number, refused_keeps, done_goes)
