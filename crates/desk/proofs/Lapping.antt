@@ -7,3 +7,4 @@ pub mod Course
 pub mod Going
 pub mod LapLoop
 pub mod Shuffled
+pub mod One

@@ -5,3 +5,4 @@ pub mod StepBy
 pub mod Holders
 pub mod Refused
 pub mod View
+pub mod One

@@ -3,3 +3,4 @@ pub mod Tests
 pub mod Found
 pub mod Told
 pub mod Fit
+pub mod One

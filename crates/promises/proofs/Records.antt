@@ -11,11 +11,11 @@ use lib.ListN.{length}
 use borrow.Author.Tests.{eqb-true, not-false}
 use Rattle.bits.specs.Words.{pick, among}
 use Rattle.bits.proofs.Words.Bools.{cases}
-use Rattle.told.specs.Numbers.{DONE, ROOM, ◌when◌, told}
+use Rattle.told.specs.Numbers.{DONE, LENGTH, ROOM, ◌when◌, told}
 use Rattle.told.proofs.Told.Smallest.{refuse_held, refuse_passed, refuse_stays}
 use Rattle.table.specs.Calls.{exact_length}
 use Rattle.orders.specs.Check.{Checked}
-use Rattle.orders.specs.Form.{records, order_fits}
+use Rattle.orders.specs.Form.{records, length_fits, order_fits}
 use Rattle.orders.specs.Check.{record_numbers, record_number, checked}
 use Rattle.orders.proofs.Checks.Told.{tells_length}
 use Rattle.orders.proofs.Checks.Fit.{order_numbers, fits_told, told_fits, told_good, first_with, record_smallest, names_record, names_first, order_number}
@@ -69,7 +69,7 @@ pub which_record : WhichRecord
 which_record = record {
   fits = told_fits;
   done = fits_told;
-  length = λ order l. sym (tells_length order l);
+  length = λ order l. sym (tells_length order LENGTH (λ z. omega (arith, z)) (sym (refuse_held LENGTH (not (length_fits order)) (ap not l))));
   names = names_record;
   first = first_bad_lem;
   before = before;

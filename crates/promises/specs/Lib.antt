@@ -1,5 +1,4 @@
 pub mod Once
-pub mod LapReads
 pub mod OfBits
 pub mod OfTold
 pub mod OfQueues

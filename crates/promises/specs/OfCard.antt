@@ -11,7 +11,7 @@ pub record OfCard : Type 0 where
   pub page_shape : Fixed contracts.packets.page_shape.ended packets.page_shape.Reads.Learnt
   pub destination : Fixed contracts.packets.destination.ended packets.destination.Reads.Learnt
   pub page_data : FixedBy contracts.packets.page_data.ended (λ κs. SamePart) packets.page_data.Reads.Learnt
-  pub data_number : Fixed contracts.packets.data_number.ended packets.data_number.Reads.Learnt
+  pub may_read_data : Fixed contracts.packets.may_read_data.ended packets.may_read_data.Reads.Learnt
   pub packet_at : Fixed contracts.packets.packet_at.ended packets.packet_at.Reads.Learnt
   pub store_packet : Fixed contracts.packets.store_packet.ended packets.store_packet.Reads.Learnt
   pub stamp : Fixed contracts.packets.stamp.ended packets.stamp.Reads.Learnt

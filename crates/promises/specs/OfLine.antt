@@ -5,7 +5,6 @@ use Rattle.line.proofs.step as step
 use Rattle.promises.specs.Once.{Fixed, Once}
 
 pub record OfLine : Type 0 where
-  pub number : Once contracts.step.Answer.number.ended step.Answer.number.Reads.Asked step.Answer.number.Reads.Learnt
   pub value : Once contracts.step.Answer.value.ended step.Answer.value.Reads.Asked step.Answer.value.Reads.Learnt
   pub step_on : Fixed contracts.step.step_on.ended step.step_on.Reads.Learnt
   pub step : Once contracts.step.step.ended step.step.Reads.Asked step.step.Reads.Learnt

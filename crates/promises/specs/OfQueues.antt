@@ -8,6 +8,7 @@ pub record OfQueues : Type 0 where
   pub none : Once contracts.queues.Queue.none.ended queues.Queue.none.Reads.Asked queues.Queue.none.Reads.Learnt
   pub two : Once contracts.queues.Queue.two.ended queues.Queue.two.Reads.Asked queues.Queue.two.Reads.Learnt
   pub uncleared : Once contracts.queues.Queue.uncleared.ended queues.Queue.uncleared.Reads.Asked queues.Queue.uncleared.Reads.Learnt
+  pub waiting : Once contracts.queues.Side.waiting.ended queues.Side.waiting.Reads.Asked queues.Side.waiting.Reads.Learnt
   pub full : Once contracts.queues.Side.full.ended queues.Side.full.Reads.Asked queues.Side.full.Reads.Learnt
   pub enabled : Once contracts.queues.Side.enabled.ended queues.Side.enabled.Reads.Asked queues.Side.enabled.Reads.Learnt
   pub disabled : Once contracts.queues.Side.disabled.ended queues.Side.disabled.Reads.Asked queues.Side.disabled.Reads.Learnt

@@ -17,8 +17,8 @@ pub record OfRegisters : Type 0 where
   pub after_read : Once contracts.regs.Regs.after_read.ended regs.after_read.Reads.Asked regs.after_read.Reads.Learnt
   pub after_write : Once contracts.regs.Regs.after_write.ended regs.after_write.Reads.Asked regs.after_write.Reads.Learnt
   pub no_register : Once contracts.regs.Regs.no_register.ended regs.no_register.Reads.Asked regs.no_register.Reads.Learnt
-  pub read_number : Once contracts.regs.Regs.read_number.ended regs.read_number.Reads.Asked regs.read_number.Reads.Learnt
-  pub write_number : Once contracts.regs.Regs.write_number.ended regs.write_number.Reads.Asked regs.write_number.Reads.Learnt
+  pub may_read : Once contracts.regs.Regs.may_read.ended regs.may_read.Reads.Asked regs.may_read.Reads.Learnt
+  pub may_write : Once contracts.regs.Regs.may_write.ended regs.may_write.Reads.Asked regs.may_write.Reads.Learnt
   pub burst : Once contracts.regs.Regs.burst.ended regs.burst.Reads.Asked regs.burst.Reads.Learnt
   pub recovered : Once contracts.regs.Regs.recovered.ended regs.recovered.Reads.Asked regs.recovered.Reads.Learnt
   pub heard : Once contracts.regs.Regs.heard.ended regs.heard.Reads.Asked regs.heard.Reads.Learnt
@@ -28,8 +28,6 @@ pub record OfRegisters : Type 0 where
   pub sent : Once contracts.regs.Regs.sent.ended regs.sent.Reads.Asked regs.sent.Reads.Learnt
   pub enquired : Once contracts.regs.Regs.enquired.ended regs.enquired.Reads.Asked regs.enquired.Reads.Learnt
   pub received : Once contracts.regs.Regs.received.ended regs.received.Reads.Asked regs.received.Reads.Learnt
-  pub transmitting : Once contracts.regs.Regs.transmitting.ended regs.transmitting.Reads.Asked regs.transmitting.Reads.Learnt
-  pub receiving : Once contracts.regs.Regs.receiving.ended regs.receiving.Reads.Asked regs.receiving.Reads.Learnt
+  pub waiting : Once contracts.regs.Regs.waiting.ended regs.waiting.Reads.Asked regs.waiting.Reads.Learnt
   pub takes_broadcasts : Once contracts.regs.Regs.takes_broadcasts.ended regs.takes_broadcasts.Reads.Asked regs.takes_broadcasts.Reads.Learnt
-  pub transmit_page : Once contracts.regs.Regs.transmit_page.ended regs.transmit_page.Reads.Asked regs.transmit_page.Reads.Learnt
-  pub receive_page : Once contracts.regs.Regs.receive_page.ended regs.receive_page.Reads.Asked regs.receive_page.Reads.Learnt
+  pub page : Once contracts.regs.Regs.page.ended regs.page.Reads.Asked regs.page.Reads.Learnt

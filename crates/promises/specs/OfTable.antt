@@ -1,11 +1,17 @@
 -- "No second outcome fits", over the contracts of `table`.
 -- Assumes nothing.
+use mir.Syntax.{Dict}
+use denote.RattleType.{RattleType}
+use denote.Param.Laws.{Laws}
+use Rattle.std.specs.Prelude.{◌≡◌, List, ℕ}
+use Rattle.std.specs.Fork.{ChangesAt}
 use Rattle.table.specs.contracts as contracts
 use Rattle.table.proofs.network as network
+use Rattle.table.proofs.walk as walk
 use Rattle.table.proofs.calls as calls
 use Rattle.promises.specs.Once.{FixedBy, Fixed, OnceBy, Once, SamePart}
 
-pub record OfTable : Type 0 where
+pub record OfTable : Type 2 where
   pub shape : Once contracts.network.shape.ended network.shape.Reads.Asked network.shape.Reads.Learnt
   pub wide : Once contracts.network.wide.ended network.wide.Reads.Asked network.wide.Reads.Learnt
   pub rows : Fixed contracts.network.rows.ended network.rows.Reads.Learnt
@@ -20,9 +26,14 @@ pub record OfTable : Type 0 where
   pub turn : Fixed contracts.network.turn.ended network.turn.Reads.Learnt
   pub node_of : Fixed contracts.network.node_of.ended network.node_of.Reads.Learnt
   pub top_id : Fixed contracts.network.top_id.ended network.top_id.Reads.Learnt
+  pub first : Fixed contracts.walk.Rows.first.ended walk.Rows.first.Reads.Learnt
+  -- of a closure that leaves one row of a row and its number
+  pub each_row_mut : (F : RattleType) (laws : Laws F) (calls : contracts.walk.each_row_mut.F-Fn.Ghosts F) (d d₁ d₂ d₃ : Dict)
+      → ((f : F.Denot) (k : ℕ) (r s t : List ℕ) → ChangesAt calls f k r s → ChangesAt calls f k r t → s ≡ t)
+      → Fixed (contracts.walk.each_row_mut.ended F calls d d₁ d₂ d₃) (walk.each_row_mut.Reads.Learnt F laws calls d d₁ d₂ d₃)
   pub exact_length : Fixed contracts.calls.exact_length.ended calls.exact_length.Reads.Learnt
   pub fresh : Once contracts.calls.fresh.ended calls.fresh.Reads.Asked calls.fresh.Reads.Learnt
-  pub place_number : Once contracts.calls.place_number.ended calls.place_number.Reads.Asked calls.place_number.Reads.Learnt
+  pub place : Once contracts.calls.place.ended calls.place.Reads.Asked calls.place.Reads.Learnt
   pub read : Once contracts.calls.read.ended calls.read.Reads.Asked calls.read.Reads.Learnt
   pub write_on : Fixed contracts.calls.write_on.ended calls.write_on.Reads.Learnt
   pub write : Once contracts.calls.write.ended calls.write.Reads.Asked calls.write.Reads.Learnt
@@ -30,4 +41,4 @@ pub record OfTable : Type 0 where
   pub timer : Once contracts.calls.timer.ended calls.timer.Reads.Asked calls.timer.Reads.Learnt
   pub interrupt : Once contracts.calls.interrupt.ended calls.interrupt.Reads.Asked calls.interrupt.Reads.Learnt
   pub page_data : OnceBy contracts.calls.page_data.ended (λ κs. SamePart) calls.page_data.Reads.Asked calls.page_data.Reads.Learnt
-  pub data_number : Once contracts.calls.data_number.ended calls.data_number.Reads.Asked calls.data_number.Reads.Learnt
+  pub may_read_data : Once contracts.calls.may_read_data.ended calls.may_read_data.Reads.Asked calls.may_read_data.Reads.Learnt

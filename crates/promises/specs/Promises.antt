@@ -152,9 +152,8 @@ IdleFaults = (net : List ℕ) (fault : ℕ) → fault ≤ 3 → meets fault (ste
 abbrev pub Sizes : Type 0
 Sizes = (count next : ℕ) (long : Bool) → count < 256 → next < 256 → malformed (shape_of count next long) ≡ false → CanBeSent (data_bytes (shape_of count next long))
 
--- ---- "no second outcome fits": the contract of every public function, crate by crate. None is left out; two are read in a way of their own, `laps::walk` (OfDesk)
--- and `laps::lap` (LapReads)
-pub record OneOutcome : Type 0 where
+-- ---- "no second outcome fits": the contract of every public function, crate by crate. None is left out; `laps::walk` is read in a way of its own (OfDesk)
+pub record OneOutcome : Type 2 where
   pub bits : OfBits
   pub told : OfTold
   pub queues : OfQueues

@@ -1,6 +1,6 @@
 -- Document 01, "Sums to prove": "in a single list under one theorem".
 -- Assumes nothing.
-use Rattle.std.specs.Prelude.{◌≡◌, Bool, true, List, [], ◌∷◌, map, ℕ, take}
+use Rattle.std.specs.Prelude.{◌≡◌, Bool, true, Some, List, [], ◌∷◌, map, ℕ, take}
 use Rattle.registers.specs.declared.regs.Regs.{Regs}
 use Rattle.card.specs.declared.packets.Shape.TheVariants.{Malformed}
 use Rattle.commands.specs.declared.commands.Command.TheVariants.{Enable}
@@ -30,8 +30,8 @@ pub record Sums : Type 0 where
   pub long_4 : data_bytes (shape_of 0 4 true) ≡ 508
   pub long_255 : data_bytes (shape_of 0 255 true) ≡ 257
   -- "page of 2C is 3; page of 0B is 2"
-  pub page_2c : command_of 0x2c ≡ Enable Receive 3
-  pub page_0b : command_of 0x0b ≡ Enable Transmit 2
+  pub page_2c : command_of 0x2c ≡ Some (Enable Receive 3)
+  pub page_0b : command_of 0x0b ≡ Some (Enable Transmit 2)
   -- "NID 255 to 0; pointer 1,023 to 0; status 91 after reset": the hardware reset, and a write of RESET = 1
   pub nid_255 : (g : Regs) → g.nid ≡ 255 → (risen_nid g).nid ≡ 0
   pub pointer_1023 : (g : Regs) → has AUTO_INC g.mode ≡ true → pointer g ≡ 1023 → pointer (stepped g) ≡ 0

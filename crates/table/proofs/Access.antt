@@ -14,3 +14,4 @@ pub mod Ahead
 pub mod Counts
 pub mod Refused
 pub mod Rising
+pub mod One

@@ -6,6 +6,5 @@ use Rattle.promises.proofs.Once.Same.{told}
 
 pub bits_once : OfBits
 bits_once = record {
-  choose = (λ _ _. tt, λ _ _ _ _ _ _. told refl);
-  either = (λ _ _. tt, λ _ _ _ _ _ _. told refl);
+  choose = λ _ _ _ _ _. (λ _ _ l. l, λ _ _ _ _ _ _. told refl);
 }

@@ -1,9 +1,10 @@
 -- No second outcome fits a contract of `card`.
 -- Assumes nothing.
 use mathlib.Core.Path.{refl}
+use Rattle.told.proofs.Told.One.{number_one}
 use Rattle.card.proofs.Pages.Refused.{data_refused}
 use Rattle.promises.specs.OfCard.{OfCard}
-use Rattle.promises.proofs.Once.Same.{told, left, both, part, unrefused}
+use Rattle.promises.proofs.Once.Same.{told, told_by, left, both, part, unrefused}
 
 pub card_once : OfCard
 card_once = record {
@@ -12,7 +13,7 @@ card_once = record {
   page_shape = λ _ _ _ _ _ _. told refl;
   destination = λ _ _ _ _ _ _. told refl;
   page_data = λ _ _ x x' _ _. part x x' refl (unrefused _ (data_refused _ _));
-  data_number = λ _ _ _ _ _ _. told refl;
+  may_read_data = λ _ _ _ _ _ _. told_by number_one refl;
   packet_at = λ _ _ _ _ _ _. told refl;
   store_packet = λ _ _ _ _ _ _. left refl;
   stamp = λ _ _ _ _ _ _. left refl;

@@ -1,9 +1,10 @@
 -- No second outcome fits a contract of `orders`.
 -- Assumes nothing.
 use mathlib.Core.Path.{refl}
+use Rattle.orders.proofs.Checks.One.{verdict_one}
 use Rattle.orders.proofs.Forms.Names.{name_there}
 use Rattle.promises.specs.OfOrders.{OfOrders}
-use Rattle.promises.proofs.Once.Same.{told, part}
+use Rattle.promises.proofs.Once.Same.{told, told_by, part}
 
 pub orders_once : OfOrders
 orders_once = record {
@@ -13,5 +14,5 @@ orders_once = record {
   printable = (λ _ _. tt, λ _ _ _ _ _ _. told refl);
   record_of = λ _ _ _ _ _ _. told refl;
   name_at = (λ _ _. tt, λ _ _ x x' _ _. part x x' refl (name_there _ _));
-  check = (λ _ _. tt, λ _ _ _ _ _ _. told refl);
+  check = (λ _ _. tt, λ _ _ _ _ _ _. told_by verdict_one refl);
 }

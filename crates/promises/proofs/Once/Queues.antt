@@ -9,6 +9,7 @@ queues_once = record {
   none = (λ _ _. tt, λ _ _ _ _ _ _. told refl);
   two = (λ _ _. tt, λ _ _ _ _ _ _. told refl);
   uncleared = (λ _ _. tt, λ _ _ _ _ _ _. told refl);
+  waiting = (λ _ _. tt, λ _ _ _ _ _ _. told refl);
   full = (λ _ _. tt, λ _ _ _ _ _ _. told refl);
   enabled = (λ _ _. tt, λ _ _ _ _ _ _. told refl);
   disabled = (λ _ _. tt, λ _ _ _ _ _ _. told refl);

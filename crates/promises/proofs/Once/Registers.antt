@@ -1,8 +1,9 @@
 -- No second outcome fits a contract of `registers`.
 -- Assumes nothing.
 use mathlib.Core.Path.{refl}
+use Rattle.told.proofs.Told.One.{number_one}
 use Rattle.promises.specs.OfRegisters.{OfRegisters}
-use Rattle.promises.proofs.Once.Same.{told}
+use Rattle.promises.proofs.Once.Same.{told, told_by}
 
 pub registers_once : OfRegisters
 registers_once = record {
@@ -18,8 +19,8 @@ registers_once = record {
   after_read = (λ _ _. tt, λ _ _ _ _ _ _. told refl);
   after_write = (λ _ _. tt, λ _ _ _ _ _ _. told refl);
   no_register = (λ _ _. tt, λ _ _ _ _ _ _. told refl);
-  read_number = (λ _ _. tt, λ _ _ _ _ _ _. told refl);
-  write_number = (λ _ _. tt, λ _ _ _ _ _ _. told refl);
+  may_read = (λ _ _. tt, λ _ _ _ _ _ _. told_by number_one refl);
+  may_write = (λ _ _. tt, λ _ _ _ _ _ _. told_by number_one refl);
   burst = (λ _ _. tt, λ _ _ _ _ _ _. told refl);
   recovered = (λ _ _. tt, λ _ _ _ _ _ _. told refl);
   heard = (λ _ _. tt, λ _ _ _ _ _ _. told refl);
@@ -29,9 +30,7 @@ registers_once = record {
   sent = (λ _ _. tt, λ _ _ _ _ _ _. told refl);
   enquired = (λ _ _. tt, λ _ _ _ _ _ _. told refl);
   received = (λ _ _. tt, λ _ _ _ _ _ _. told refl);
-  transmitting = (λ _ _. tt, λ _ _ _ _ _ _. told refl);
-  receiving = (λ _ _. tt, λ _ _ _ _ _ _. told refl);
+  waiting = (λ _ _. tt, λ _ _ _ _ _ _. told refl);
   takes_broadcasts = (λ _ _. tt, λ _ _ _ _ _ _. told refl);
-  transmit_page = (λ _ _. tt, λ _ _ _ _ _ _. told refl);
-  receive_page = (λ _ _. tt, λ _ _ _ _ _ _. told refl);
+  page = (λ _ _. tt, λ _ _ _ _ _ _. told refl);
 }

@@ -11,6 +11,18 @@ use Rattle.promises.specs.Once.{SamePart}
 pub told : {A Z : Type 0} {x x' u : A} {w w' : Z} → w ≡ w' → x ≡ u → x' ≡ u → (x ≡ x') × (w ≡ w')
 told e p q = (p ∙ sym q, e)
 
+-- an answer by what it tells, of which there is one answer: with nothing lent that can change, or the bytes of the first parameter or of the second
+module _ {A B : Type 0} {f : A → B} (one : (x y : A) → f x ≡ f y → x ≡ y) {Z : Type 0} {x x' : A} {u : B} where
+  pub told_by : {w w' : Z} → w ≡ w' → f x ≡ u → f x' ≡ u → (x ≡ x') × (w ≡ w')
+  told_by e p q = (one x x' (p ∙ sym q), e)
+
+  module _ {V : Type 0} {v : V} where
+    pub both_by : {w w' : V × Z} → w.1 ≡ w'.1 → (f x ≡ u) × (w.0 ≡ v) → (f x' ≡ u) × (w'.0 ≡ v) → (x ≡ x') × (w ≡ w')
+    both_by e p q = (one x x' (p.0 ∙ sym q.0), λ i. ((p.1 ∙ sym q.1) i, e i))
+
+    pub both_right_by : {w w' : Unit {0} × (V × Z)} → w.1.1 ≡ w'.1.1 → (f x ≡ u) × (w.1.0 ≡ v) → (f x' ≡ u) × (w'.1.0 ≡ v) → (x ≡ x') × (w ≡ w')
+    both_right_by e p q = (one x x' (p.0 ∙ sym q.0), λ i. (tt, ((p.1 ∙ sym q.1) i, e i)))
+
 -- no answer, and the bytes of the first parameter by an equation, or of the second
 module _ {B Z : Type 0} {x x' : Unit {0}} {v : B} where
   pub left : {w w' : B × Z} → w.1 ≡ w'.1 → w.0 ≡ v → w'.0 ≡ v → (x ≡ x') × (w ≡ w')

@@ -1,14 +1,25 @@
 -- `desk::laps::walk` hands back a list of row_limit entries, by its type.
 -- Assumes nothing.
-use mathlib.Core.Path.{◌≡◌}
+use mathlib.Core.Path.{◌≡◌, refl}
 use lib.ListN.{length}
 use contract.Lifetimes.{Lfts}
-use borrow.Fn.Kinds.{res_t}
 use denote.Struct.Laws.{owed}
+use denote.Enum.Laws as enum
+use Rattle.std.proofs.Common.{Result, Ok, Err}
+use Rattle.core.specs.contracts.result.Result as result
+use Rattle.core.proofs.result.Result.TheLaws as result_laws
+use Rattle.told.specs.declared.refusals.Refusal.{Refusal}
+use Rattle.told.specs.contracts.refusals.Refusal as refusal
+use Rattle.told.proofs.refusals.Refusal.TheLaws as refusal_laws
 use Rattle.table.specs.Network.{row_limit}
-use Rattle.desk.specs.contracts.laps.Walked.{the_type}
-use Rattle.desk.proofs.laps.Walked.TheLaws.{the_laws}
+use Rattle.desk.specs.declared.laps.Walked.{Walked}
+use Rattle.desk.specs.contracts.laps.Walked as walked
+use Rattle.desk.proofs.laps.Walked.TheLaws as walked_laws
 use Rattle.desk.proofs.laps.walk.Kinds.{r}
+use Rattle.desk.specs.Lap.{walked_list}
 
-pub sized : (κs : Lfts 1) (x : (res_t r κs).Denot) → r.is.Ok κs x → length x.list ≡ row_limit
-sized κs x o = (owed the_type the_laws x _ o).1.1.0.1.0.1
+pub sized : (κs : Lfts 1) (x : Result Walked Refusal) → r.is.Ok κs x → length (walked_list x) ≡ row_limit
+sized κs (Ok w) o =
+    let laws = result_laws.the_laws walked.the_row refusal.the_row walked_laws.the_row_laws refusal_laws.the_row_laws walked_laws.the_told refusal_laws.the_told in
+    (owed walked.the_type walked_laws.the_laws w _ (enum.owed (result.the_type walked.the_row refusal.the_row) laws (Ok w) _ o).0).1.1.0.1.0.1
+sized κs (Err e) o = refl

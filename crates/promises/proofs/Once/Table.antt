@@ -1,9 +1,22 @@
 -- No second outcome fits a contract of `table`.
 -- Assumes nothing.
-use mathlib.Core.Path.{refl, sym, ◌∙◌}
+use mathlib.Core.Path.{◌≡◌, refl, sym, ap, ◌∙◌}
+use mathlib.Core.List.{List, ◌++◌}
+use Prim.Native.Nat.{ℕ, ◌<◌}
+use native.Mathlib.Omega.{arith}
+use lib.ListN.{take}
+use Rattle.told.proofs.Told.One.{number_one}
+use Rattle.table.specs.Rows.{header_bytes, with_rows}
+use Rattle.table.proofs.Rows.View.{joined_ext}
+use Rattle.table.proofs.Access.One.{reading_one, interrupting_one}
 use Rattle.table.proofs.Access.Refused.{data_refused}
 use Rattle.promises.specs.OfTable.{OfTable}
-use Rattle.promises.proofs.Once.Same.{told, left, both, part, unrefused}
+use Rattle.promises.proofs.Once.Same.{told, told_by, left, both_by, part, unrefused}
+
+-- the network with other rows, where the rows are the same
+same_rows : (net : List ℕ) (n : ℕ) (g h : ℕ → List ℕ) → ((k : ℕ) → k < n → g k ≡ h k) → with_rows net n g ≡ with_rows net n h
+unfolding with_rows
+same_rows net n g h e = ap (λ (r : List ℕ). take header_bytes net ++ r) (joined_ext g h n 0 _ (λ k z l. e k (omega (arith, l))))
 
 pub table_once : OfTable
 table_once = record {
@@ -21,15 +34,18 @@ table_once = record {
   turn = λ _ _ _ _ _ _. left refl;
   node_of = λ _ _ _ _ _ _. told refl;
   top_id = λ _ _ _ _ _ _. told refl;
+  first = λ _ _ _ _ _ _. told refl;
+  each_row_mut = λ _ _ _ _ _ _ _ only κs a x x' w w' p q.
+      left {x = x} {x' = x'} refl (p.is ∙ same_rows _ _ _ _ (λ k l. only _ k _ _ _ (p.changed k l) (q.changed k l))) q.is;
   exact_length = λ _ _ _ _ _ _. told refl;
-  fresh = (λ _ _. tt, λ _ _ _ _ _ _. both refl);
-  place_number = (λ _ _. tt, λ _ _ _ _ _ _. told refl);
-  read = (λ _ _. tt, λ _ _ _ _ _ _. both refl);
-  write_on = λ _ _ _ _ _ _. both refl;
-  write = (λ _ _. tt, λ _ _ _ _ _ _. both refl);
-  reset = (λ _ _. tt, λ _ _ _ _ _ _. both refl);
-  timer = (λ _ _. tt, λ _ _ _ _ _ _. both refl);
-  interrupt = (λ _ _. tt, λ _ _ _ _ _ _. told refl);
+  fresh = (λ _ _. tt, λ _ _ _ _ _ _. both_by number_one refl);
+  place = (λ _ _. tt, λ _ _ _ _ _ _. told_by number_one refl);
+  read = (λ _ _. tt, λ _ _ _ _ _ _. both_by reading_one refl);
+  write_on = λ _ _ _ _ _ _. both_by number_one refl;
+  write = (λ _ _. tt, λ _ _ _ _ _ _. both_by number_one refl);
+  reset = (λ _ _. tt, λ _ _ _ _ _ _. both_by number_one refl);
+  timer = (λ _ _. tt, λ _ _ _ _ _ _. both_by number_one refl);
+  interrupt = (λ _ _. tt, λ _ _ _ _ _ _. told_by interrupting_one refl);
   page_data = (λ _ _. tt, λ _ _ x x' _ _. part x x' refl (unrefused _ (data_refused _ _ _)));
-  data_number = (λ _ _. tt, λ _ _ _ _ _ _. told refl);
+  may_read_data = (λ _ _. tt, λ _ _ _ _ _ _. told_by number_one refl);
 }
