@@ -20,7 +20,11 @@ impl Regs {
     pub fn no_register(self, register: usize) -> bool
         ensures { result ≡ no_register self register }
     {
-        (7 < register) | (register == 5) | (register == 7) & (self.sub_address() == 3)
+        match register {
+            0..=4 | 6 => false,
+            7 => self.sub_address() == 3,
+            _ => true,
+        }
     }
 
     // A byte is a command of this card: the two of C-11 are a chaining card's alone.
@@ -35,10 +39,13 @@ impl Regs {
     fn bad_value(self, register: usize, value: u8) -> bool
         ensures { result ≡ bad_value self register value }
     {
-        (register == 0) & (value & !MASK != 0)
-            | (register == 1) & !self.takes(decode(value))
-            | (register == 2) & (value & !MODE != 0)
-            | (register == 7) & (self.sub_address() == 2) & (value & !SETUP != 0)
+        match register {
+            0 => value & !MASK != 0,
+            1 => !self.takes(decode(value)),
+            2 => value & !MODE != 0,
+            7 => (self.sub_address() == 2) & (value & !SETUP != 0),
+            _ => false,
+        }
     }
 
     // Something waits, on one side or the other.
