@@ -19,14 +19,14 @@ pub enum Shape {
 }
 
 // A page of a row: where in the row it starts, and whether it may be long.
-#[derive(Clone, Copy, PartialEq, Eq)]
+#[derive(Clone, Copy, Debug, PartialEq, Eq)]
 pub struct Page {
     pub at: usize,
     pub long: bool,
 }
 
 // A packet that was read out of a page: the page's bytes, and zeros up to 512.
-#[derive(Clone, Copy, PartialEq, Eq)]
+#[derive(Clone, Copy, Debug, PartialEq, Eq)]
 pub struct Packet {
     pub shape: Shape,
     pub bytes: [u8; 512],
