@@ -1,29 +1,23 @@
 -- A call to a row of a network: what SHAPE and ROW say, and each call that does not settle a row, put together from what its parts ensure.
 -- Assumes nothing.
 use mathlib.Core.Path.{◌≡◌, refl, sym, ◌∙◌, ap}
-use mathlib.Core.Bool.{Bool, true, false, not}
-use mathlib.Core.List.{List, [], ◌++◌}
+use mathlib.Core.Bool.{true, false, not}
+use mathlib.Core.List.{List, ◌++◌}
 use Prim.Native.Nat.{ℕ, suc, ◌+◌, ◌-◌, ◌≤◌, ◌<◌}
-use native.Mathlib.Omega.{arith}
 use lib.Dec.{leb}
 use lib.ListN.{length}
-use borrow.Author.Tests.{eq-eqb, ne_eqb, leb-false, lt-leb, not-false}
+use borrow.Author.Tests.{eq-eqb, leb-false, lt-leb, not-false}
 use borrow.Rule.Slice.PartMut.{mid_of, put_mid}
-use Rattle.registers.specs.declared.regs.Regs.{Regs}
-use Rattle.told.specs.Numbers.{DONE, SHAPE, ROW, Refusal, refuse, told, refuses}
-use Rattle.card.specs.Row.{put_regs}
-use Rattle.registers.specs.Registers.{interrupt}
+use Rattle.told.specs.Numbers.{DONE, SHAPE, ROW, Refusal, told, refuses}
 use Rattle.card.specs.Access.{value_read, row_after_read}
 use Rattle.places.specs.Places.{onward}
 use Rattle.places.proofs.Places.{onward_onward}
 use Rattle.card.specs.Packets.{data_refusals, data_number, data_from, page_data}
-use Rattle.registers.specs.Events.{burst}
-use Rattle.told.proofs.Told.Smallest.{refuse_held, refuse_passed, refuse_stays, told_first, told_second, told_both, none_refuses}
+use Rattle.told.proofs.Told.Smallest.{refuse_passed, told_first, told_second, told_both, none_refuses}
 use Rattle.table.specs.Calls.{Reading}
-use Rattle.table.specs.Calls.{Interrupting}
-use Rattle.table.specs.Rows.{header_bytes, row_start, row_at, set_row}
-use Rattle.table.specs.Network.{rows, LOST, turned, regs_at, shape}
-use Rattle.table.specs.Calls.{place_refusals, place_number, net_read_number, net_reading, net_after_read, net_write_number, timer_number, net_after_timer, net_interrupt, net_data_from, net_data, net_data_number}
+use Rattle.table.specs.Rows.{header_bytes, row_start, row_at}
+use Rattle.table.specs.Network.{rows, shape}
+use Rattle.table.specs.Calls.{place_refusals, place_number, net_read_number, net_reading, net_after_read, net_write_number, timer_number, net_data_from, net_data, net_data_number}
 use Rattle.table.proofs.Rows.Walks.{Lies, mid_row, row_done_lem}
 use Rattle.table.proofs.Shaped.Shapes.{shape_least, shape_within}
 

@@ -1,4 +1,4 @@
-use Rattle.std.proofs.Common.{arith, rules}
+use Rattle.std.proofs.Common.{arith}
 use Rattle.table.proofs.Rows.Passes.{lay_none}
 use Rattle.table.proofs.Access.Fresh.{exact_least, exact_none, fresh_part, fresh_next, fresh_laid}
 use Rattle.table.proofs.calls.create_rows.Goals as goal

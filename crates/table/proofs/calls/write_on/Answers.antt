@@ -1,4 +1,4 @@
-use Rattle.std.proofs.Common.{ap, sym, ◌∙◌, refl}
+use Rattle.std.proofs.Common.{ap, sym, ◌∙◌}
 use Rattle.told.specs.Refusals.{number}
 use Rattle.told.proofs.Told.Results.{is_done, handed_number, refused_keeps}
 use Rattle.card.specs.Access.{row_after_write}

@@ -1,9 +1,9 @@
-use Rattle.std.proofs.Common.{sym, ap, ◌∙◌, arith, rules, inl, refl}
+use Rattle.std.proofs.Common.{sym, ap, ◌∙◌, arith, inl, refl}
 use Rattle.card.specs.Row.{regs_of}
 use Rattle.table.specs.Network.{ids_differ}
-use Rattle.table.proofs.Folds.{passed_none, passed_fails, passed_more, passed_all}
+use Rattle.table.proofs.Folds.{passed_none, passed_fails, passed_more}
 use Rattle.table.proofs.Rows.Starts.{start_mono}
-use Rattle.table.proofs.Rows.Walk.{before_first, before_fits, before_end, before_less, before_next, before_is}
+use Rattle.table.proofs.Rows.Walk.{before_first, before_fits, before_less, before_next, before_is}
 use Rattle.table.proofs.Online.Nodes.{free, free_off, free_not, free_is}
 use Rattle.table.proofs.network.ids_differ.Goals as goal
 use Rattle.table.proofs.network.ids_differ.Goals.{else-on_line-via-then-on_line+else-is_some, else-on_line-via-else-on_line}

@@ -1,4 +1,4 @@
-use Rattle.std.proofs.Common.{◌≡◌, ◌&&◌, ◌==◌, ◌≤◌, ◌<◌, ◌+◌, ℕ, Bool, List, not, length, sym, ap, ◌∙◌, arith, rules, inl, refl}
+use Rattle.std.proofs.Common.{◌≡◌, ◌&&◌, ◌==◌, ℕ, Bool, List, not, sym, ap, ◌∙◌, inl, refl}
 use Rattle.registers.specs.declared.regs.Regs.{Regs}
 use Rattle.registers.specs.Fit.{on_line}
 use Rattle.card.specs.Row.{regs_of}

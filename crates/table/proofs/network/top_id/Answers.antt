@@ -1,4 +1,4 @@
-use Rattle.std.proofs.Common.{sym, ap, ◌∙◌, rules, refl}
+use Rattle.std.proofs.Common.{sym, ap, ◌∙◌, refl}
 use Rattle.card.specs.Row.{regs_of}
 use Rattle.table.proofs.Rows.Walk.{before_first, before_next, before_is}
 use Rattle.table.proofs.Online.Nodes.{top_id_none, top_id_step}
