@@ -51,9 +51,6 @@ module _ (f : ℕ → Bool) (n : ℕ) where
   pub passed_none : Passed f n 0
   passed_none = record { below = omega arith; good = every_none f }
 
-  pub passed_all : (k : ℕ) → Passed f n k → n ≤ k → true ≡ every f n
-  passed_all k p l = let e : k ≡ n = omega arith in sym (rw e at p.good)
-
   module _ (k : ℕ) (l : k < n) where
     pub passed_fails : f k ≡ false → false ≡ every f n
     passed_fails q = sym (every_broken f k n l q)

@@ -67,7 +67,8 @@ pub fn row_start(net: &[u8], k: usize) -> usize
     a
 }
 
-// Where the row ends that starts at a.
+// Where the row ends that starts at a. Kept: who writes a row lends net[a..e] itself: a function that returns a part of a
+// slice as `&mut` was tried, and its clause on what becomes of the network gets no proof.
 pub fn row_end(net: &[u8], a: usize) -> usize
     requires { a + row_size (drop a net.now) ≤ length net.now }
     ensures { (result ≡ a + row_size (drop a net.now)) × (result ≤ length net.now) }

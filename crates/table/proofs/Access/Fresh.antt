@@ -1,21 +1,20 @@
 -- The fresh call: its refusals, and the header and the rows that it writes.
 -- Assumes nothing.
 use mathlib.Core.Path.{◌≡◌, refl, sym, ◌∙◌, ap}
-use mathlib.Core.Bool.{Bool, true, false, not, ◌||◌}
+use mathlib.Core.Bool.{Bool, false, not, ◌||◌}
 use mathlib.Core.List.{List, [], ◌∷◌, ◌++◌}
 use Prim.Native.Nat.{ℕ, ◌+◌, ◌-◌, ◌≤◌, ◌<◌, ◌*◌}
 use native.Mathlib.Nat.{add-zero}
 use native.Mathlib.Omega.{arith}
 use lib.Dec.{eqb, ltb}
-use lib.ListN.{length, set, take, drop, replicate, length-append, length-drop, drop_of_length-le}
-use lib.Seq.{length-take-le}
+use lib.ListN.{length, take, drop, replicate, length-append, length-drop, drop_of_length-le}
 use borrow.Author.Tests.{eq-eqb, ne_eqb, eqb-true, ltb-false, le-ltb, not-false, eqb-false}
-use borrow.Rule.Slice.PartMut.{mid_of, put_mid}
+use borrow.Rule.Slice.PartMut.{put_mid}
 use Rattle.told.specs.Numbers.{DONE, VALUE, ROOM, refuse, refuses}
 use Rattle.card.specs.Row.{row_bytes}
 use Rattle.card.specs.Access.{fresh_row}
 use Rattle.bits.proofs.Words.Bools.{or_right, or_left}
-use Rattle.told.proofs.Told.Smallest.{refuse_held, refuse_passed, refuse_stays, none_refuses}
+use Rattle.told.proofs.Told.Smallest.{refuse_passed, none_refuses}
 use Rattle.card.proofs.Rows.WellFormed.{length_fresh, fresh_whole}
 use Rattle.table.specs.Rows.{header_bytes, row_start, row_at, joined}
 use Rattle.table.specs.Network.{mark, row_limit, rows, phase, LOST}
@@ -31,10 +30,6 @@ pub fresh_small : (n : ℕ) → bad n ≡ false → n ≤ row_limit
 fresh_small n b = ltb-false _ _ (or_right (eqb n 0) (ltb row_limit n) b)
 
 module _ (net : List ℕ) (n : ℕ) where
-  pub fresh_value : bad n ≡ true → VALUE ≡ fresh_number net n
-  unfolding fresh_number fresh_refusals
-  fresh_value b = rw (refuse_held VALUE (bad n) b, refuse_stays VALUE ROOM (not (eqb (length net) (exact_length n))) (λ z. omega arith))
-
   pub fresh_asked : bad n ≡ false → (r : ℕ) → r ≡ refuse DONE ROOM (not (eqb (length net) (exact_length n))) → r ≡ fresh_number net n
   unfolding fresh_number fresh_refusals
   fresh_asked b r e = rw (refuse_passed DONE VALUE (bad n) b) e
@@ -78,10 +73,6 @@ module _ (net now : List ℕ) (n k a : ℕ) (h : exact_length n ≤ length net) 
 -- ---- the header over zeros
 abbrev header : ℕ → List ℕ
 header n = mark ++ (1 ∷ n ∷ replicate 12 0)
-
-pub header_written : (net z : List ℕ) (n : ℕ) → header_bytes ≤ length net → z ≡ replicate (length (mid_of 0 header_bytes net)) 0
-    → set (set (set (set (put_mid 0 header_bytes net z) 0 0x41) 1 0x4e) 2 1) 3 n ≡ header n ++ drop header_bytes net
-header_written net z n l e = rw (e, length-take-le header_bytes net l)
 
 -- ---- the call, whose number is r
 module _ (net : List ℕ) (n r : ℕ) (p : r ≡ fresh_number net n) where

@@ -14,7 +14,7 @@ use borrow.Author.Tests.{eq-eqb, ne_eqb}
 use borrow.Rule.Slice.PartMut.{mid_of, put_mid, mid_len}
 use Rattle.bits.specs.Words.{pick}
 use Rattle.card.specs.Row.{row_size}
-use Rattle.table.specs.Rows.{header_bytes, row_start, row_at, joined, with_rows, each_row}
+use Rattle.table.specs.Rows.{header_bytes, row_start, row_at, joined, with_rows}
 use Rattle.table.specs.Walk.{EachChanged}
 use Rattle.table.proofs.Rows.View.{joined_cut, joined_split, joined_ext}
 use Rattle.table.proofs.Rows.Starts.{start_zero, start_more, start_mono, start_least}
@@ -58,48 +58,6 @@ module _ (g : ℕ → List ℕ) (net now : List ℕ) (k a : ℕ) (p : Laying g n
   pub lay_end : (n : ℕ) → k ≡ n → (e : ℕ) → a ≡ e → now ≡ take header_bytes net ++ joined g 0 n (drop e net)
   unfolding front
   lay_end n d e q = p.is ∙ rw (append_assoc, ← joined_split, d, q)
-
--- ---- f is done to each row: k of them are done, and a is where the next begins
-pub record DoneTo (f : ℕ → List ℕ → List ℕ) (net now : List ℕ) (k a : ℕ) : Type 0 where
-  pub at : a ≡ row_start net k
-  pub laying : Laying (λ j. f j (row_at net j)) net now k a
-
-module _ (f : ℕ → List ℕ → List ℕ) (net : List ℕ) (n : ℕ) (h : row_start net n ≤ length net) where
-  pub pass_none : DoneTo f net net 0 header_bytes
-  pass_none = record { at = sym (start_zero net); laying = lay_none _ net (omega (arith, start_least net n)) }
-
-  module _ {now : List ℕ} {k a : ℕ} (p : DoneTo f net now k a) where
-    pass_rest : drop a now ≡ drop a net
-    pass_rest = lay_rest _ net now k a p.laying
-
-    pub pass_length : k ≤ n → length now ≡ length net
-    pass_length l = lay_length _ net now k a p.laying (omega (arith, p.at, start_mono net k n l))
-
-    -- the whole pass
-    pub each_end : k ≡ n → now ≡ each_row f net n
-    unfolding each_row with_rows
-    each_end e = lay_end _ net now k a p.laying n e (row_start net n) (p.at ∙ ap (row_start net) e)
-
-    -- the row that starts at a ends where the next starts
-    pub row_ends : (e : ℕ) → e ≡ a + row_size (drop a now) → e ≡ row_start net (suc k)
-    row_ends e d = d ∙ rw (pass_rest, p.at) (sym (start_more net k))
-
-    module _ (l : k < n) where
-      pub each_room : a + row_size (drop a now) ≤ length now
-      each_room = omega (arith, row_ends _ refl, pass_length (omega arith), start_mono net (suc k) n l)
-
-      -- what is lent is row k as it was
-      module _ (e : ℕ) (d : e ≡ a + row_size (drop a now)) where
-        pub pass_part : mid_of a (e - a) now ≡ row_at net k
-        unfolding row_at
-        pass_part = let m : e - a ≡ row_size (drop (row_start net k) net) = omega (arith, row_ends e d, p.at, start_more net k) in rw (pass_rest, m, p.at)
-
-        pub pass_next : (r : List ℕ) → r ≡ f k (mid_of a (e - a) now) → length r ≡ length (mid_of a (e - a) now)
-            → DoneTo f net (put_mid a (e - a) now r) (k + 1) e
-        pass_next r q m = record {
-          at = rw add-one (row_ends e d);
-          laying = lay_next _ net now k a p.laying e (omega arith) r (q ∙ ap (f k) pass_part) (m ∙ mid_len a e now (omega (arith, each_room)));
-        }
 
 -- ---- each row becomes another: k of them have, and a is where the next begins
 pub record ChangedTo (R : ℕ → List ℕ → List ℕ → Type 0) (net now : List ℕ) (k a : ℕ) : Type 0 where

@@ -70,9 +70,6 @@ module _ (net new : List ℕ) (e : drop header_bytes new ≡ drop header_bytes n
   unfolding row_at
   row_at_body k = rw (start_body k, past k)
 
-pub row_at_header : (net : List ℕ) (i v : ℕ) → i < header_bytes → (k : ℕ) → row_at (set net i v) k ≡ row_at net k
-row_at_header net i v l = row_at_body net (set net i v) (drop-set-lt header_bytes net i v l)
-
 -- row k as it is
 pub set_row_same : (net : List ℕ) (k : ℕ) → set_row net k (row_at net k) ≡ net
 unfolding set_row row_at

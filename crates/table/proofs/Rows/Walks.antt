@@ -61,10 +61,6 @@ module _ (net : List ℕ) (n : ℕ) (h : row_start net n ≤ length net) (k a : 
     pub walk_on : a + length r ≡ row_start net (k + 1)
     walk_on = walk_next net k a p (length r) (ap length e ∙ length-take-le (row_size (drop a net)) (drop a net) (simp length-drop (omega (arith, walk_room))))
 
--- ---- the same, as `next` of the rows asks
-pub next_room : (net : List ℕ) (n k a : ℕ) → row_start net n ≤ length net → a ≡ row_start net k → k ≤ n → (k ≡ n → ⊥) → a + row_size (drop a net) ≤ length net
-next_room net n k a h p l d = walk_room net n h k a p (omega (arith, d))
-
 -- ---- a row as the code lends it, and the network with what comes back
 module _ (net : List ℕ) (k a e : ℕ) (p : Lies net k a e) where
   size_is : e - a ≡ row_size (drop (row_start net k) net)

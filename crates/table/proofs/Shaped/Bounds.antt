@@ -25,7 +25,3 @@ new_bounds net new s e = record {
 
 pub bounds : (net : List ℕ) → shape net ≡ true → Bounds net net
 bounds net s = new_bounds net net s refl
-
--- a slice as long as a well-formed network has room for a header
-pub header_room : (net : List ℕ) → shape net ≡ true → (size : ℕ) → size ≡ length net → header_bytes ≤ size
-header_room net s size e = omega (arith, shape_least net s)
