@@ -9,7 +9,7 @@ use Rattle.table.specs.contracts as contracts
 use Rattle.table.proofs.network as network
 use Rattle.table.proofs.walk as walk
 use Rattle.table.proofs.calls as calls
-use Rattle.promises.specs.Once.{FixedBy, Fixed, OnceBy, Once, SamePart}
+use Rattle.promises.specs.Once.{FixedBy, FixedIf, Fixed, OnceBy, Once, SamePart}
 
 pub record OfTable : Type 2 where
   pub shape : Once contracts.network.shape.ended network.shape.Reads.Asked network.shape.Reads.Learnt
@@ -29,8 +29,9 @@ pub record OfTable : Type 2 where
   pub first : Fixed contracts.walk.Rows.first.ended walk.Rows.first.Reads.Learnt
   -- of a closure that leaves one row of a row and its number
   pub each_row_mut : (F : RattleType) (laws : Laws F) (calls : contracts.walk.each_row_mut.F-Fn.Ghosts F) (d d₁ d₂ d₃ : Dict)
-      → ((f : F.Denot) (k : ℕ) (r s t : List ℕ) → ChangesAt calls f k r s → ChangesAt calls f k r t → s ≡ t)
-      → Fixed (contracts.walk.each_row_mut.ended F calls d d₁ d₂ d₃) (walk.each_row_mut.Reads.Learnt F laws calls d d₁ d₂ d₃)
+      → FixedIf (contracts.walk.each_row_mut.ended F calls d d₁ d₂ d₃)
+      (λ κs a. (k : ℕ) (r s t : List ℕ) → ChangesAt calls a.1.1.0 k r s → ChangesAt calls a.1.1.0 k r t → s ≡ t)
+      (walk.each_row_mut.Reads.Learnt F laws calls d d₁ d₂ d₃)
   pub exact_length : Fixed contracts.calls.exact_length.ended calls.exact_length.Reads.Learnt
   pub fresh : Once contracts.calls.fresh.ended calls.fresh.Reads.Asked calls.fresh.Reads.Learnt
   pub place : Once contracts.calls.place.ended calls.place.Reads.Asked calls.place.Reads.Learnt

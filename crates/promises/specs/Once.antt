@@ -32,6 +32,11 @@ module _ (T : Ended) where
   abbrev pub Fixed : Tells → Type 0
   Fixed = FixedBy (λ κs x x'. x ≡ x')
 
+  -- the same of those arguments that If holds of
+  abbrev pub FixedIf : ((κs : K) → A κs → Type 0) → Tells → Type 0
+  FixedIf If Learnt =
+      (κs : K) (a : A κs) → If κs a → (x x' : R κs) (w w' : Lasts T κs a) → Learnt κs a x (at_exit T κs a w) → Learnt κs a x' (at_exit T κs a w') → (x ≡ x') × (w ≡ w')
+
   -- the same of a function that any arguments may be passed to: it has no `requires`
   abbrev pub OnceBy : ((κs : K) → R κs → R κs → Type 0) → Asks → Tells → Type 0
   OnceBy Same Asked Learnt = ((κs : K) (a : A κs) → Asked κs a) × FixedBy Same Learnt

@@ -31,13 +31,10 @@ module _ {B Z : Type 0} {x x' : Unit {0}} {v : B} where
   pub right : {w w' : Unit {0} × (B × Z)} → w.1.1 ≡ w'.1.1 → w.1.0 ≡ v → w'.1.0 ≡ v → (x ≡ x') × (w ≡ w')
   right e p q = (refl, λ i. (tt, ((p ∙ sym q) i, e i)))
 
--- an answer, and the bytes of the first parameter or of the second
+-- an answer, and the bytes of the first parameter
 module _ {A B Z : Type 0} {x x' u : A} {v : B} where
   pub both : {w w' : B × Z} → w.1 ≡ w'.1 → (x ≡ u) × (w.0 ≡ v) → (x' ≡ u) × (w'.0 ≡ v) → (x ≡ x') × (w ≡ w')
   both e p q = (p.0 ∙ sym q.0, (left {x = tt} {x' = tt} e p.1 q.1).1)
-
-  pub both_right : {w w' : Unit {0} × (B × Z)} → w.1.1 ≡ w'.1.1 → (x ≡ u) × (w.1.0 ≡ v) → (x' ≡ u) × (w'.1.0 ≡ v) → (x ≡ x') × (w ≡ w')
-  both_right e p q = (p.0 ∙ sym q.0, (right {x = tt} {x' = tt} e p.1 q.1).1)
 
 -- a stretch, by its bytes v and, under C, its place y: C holds where there are bytes
 pub part : {Z C : Type 0} {v : List ℕ} {y : ℕ × ℕ} {w w' : Z} (x x' : Bor (List ℕ)) → w ≡ w' → ((v ≡ [] → ⊥) → C) → (x.now ≡ v) × (C → x.ref_ptr ≡ y)

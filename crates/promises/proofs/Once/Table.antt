@@ -35,8 +35,8 @@ table_once = record {
   node_of = λ _ _ _ _ _ _. told refl;
   top_id = λ _ _ _ _ _ _. told refl;
   first = λ _ _ _ _ _ _. told refl;
-  each_row_mut = λ _ _ _ _ _ _ _ only κs a x x' w w' p q.
-      left {x = x} {x' = x'} refl (p.is ∙ same_rows _ _ _ _ (λ k l. only _ k _ _ _ (p.changed k l) (q.changed k l))) q.is;
+  each_row_mut = λ _ _ _ _ _ _ _ κs a only x x' w w' p q.
+      left {x = x} {x' = x'} refl (p.is ∙ same_rows _ _ _ _ (λ k l. only k _ _ _ (p.changed k l) (q.changed k l))) q.is;
   exact_length = λ _ _ _ _ _ _. told refl;
   fresh = (λ _ _. tt, λ _ _ _ _ _ _. both_by number_one refl);
   place = (λ _ _. tt, λ _ _ _ _ _ _. told_by number_one refl);
