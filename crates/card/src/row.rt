@@ -21,6 +21,8 @@ pub fn size(row: &[u8]) -> usize
     ROW_BYTES
 }
 
+// Kept: each function of a row says how long its bytes are, since the public ones keep their clauses (`load`, `store`, `well_formed`, `hardware_reset`, `read`, `write`).
+
 // A queue in a row: the bytes of the receive queue stand one behind those of the transmit queue.
 fn queue_at(row: &[u8], at: usize) -> Queue
     requires { at + 5 < length row.now }
@@ -64,6 +66,7 @@ pub fn load(row: &[u8]) -> Regs
 }
 
 // The registers are written to bytes 2 to 19 and 32 to 34; no other byte changes.
+// Kept: one store for each byte, in their order, as `Row.put_regs` has it; a queue's three bytes do not stand together.
 #[tactic(auto, unfolding(crate::specs::Row::put_regs))]
 pub fn store(row: &mut [u8], g: Regs)
     requires { register_bytes ≤ length row.old }
