@@ -5,7 +5,7 @@ use mathlib.Core.Bool.{true}
 use mathlib.Core.List.{List}
 use Prim.Native.Nat.{ℕ}
 use borrow.Author.Tests.{not-false}
-use Rattle.told.specs.Numbers.{SHAPE, Smallest}
+use Rattle.told.specs.Numbers.{DONE, SHAPE, Smallest}
 use Rattle.told.proofs.Told.Smallest.{none_refuses, smallest}
 use Rattle.table.specs.Network.{shape}
 use Rattle.bench.specs.Calls.{shape_refusals, shape_number, wide_refusals, wide_number}
@@ -20,8 +20,7 @@ module _ (net : List ℕ) where
   unfolding wide_number
   smallest_wide row register = smallest (wide_refusals net row register) (place_rises net row _ refl)
 
-module _ (net : List ℕ) (r : ℕ) where
   -- a network with the number 0 is well formed
-  pub well_formed_lem : r ≡ shape_number net → r ≡ 0 → shape net ≡ true
+  pub well_formed_lem : DONE ≡ shape_number net → shape net ≡ true
   unfolding shape_number
-  well_formed_lem e z = not-false (shape net) (none_refuses (shape_refusals net) refl (sym e ∙ z) SHAPE)
+  well_formed_lem z = not-false (shape net) (none_refuses (shape_refusals net) refl (sym z) SHAPE)

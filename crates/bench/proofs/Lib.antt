@@ -1,3 +1,1 @@
 pub mod Checks
-pub mod Values
-pub mod Lengths

@@ -1,17 +1,19 @@
 -- What a line asks.
 -- Assumes nothing.
-use Rattle.std.specs.Prelude.{Bool, true, not, ◌&&◌, ◌||◌, List, [], ◌∷◌, ◌++◌, ℕ, eqb, ltb, leb}
-use Prim.Native.Char.{code}
-use Prim.Native.String.{String, [] as none, ◌∷◌ as ◌and◌}
+use Rattle.std.specs.Prelude.{true, not, ◌||◌, Option, Some, None, Result, Ok, Err, List, [], ◌∷◌, ℕ, ◌≤◌, eqb, ltb, leb, codes}
+use Rattle.std.specs.List.{find}
+use Rattle.std.specs.Str.{bytes_eq}
 use Rattle.bits.specs.Words.{pick}
-use Rattle.words.specs.declared.numbers.Number.{Number}
-use Rattle.words.specs.Words.{NEWLINE, word, row, count, spaced}
+use Rattle.words.specs.Words.{word, count, spaced}
 use Rattle.words.specs.Numbers.{number_of}
 use Rattle.words.specs.Hex.{hex_fits}
+use Rattle.prompt.specs.declared.answers.Mistake.{Mistake}
 use Rattle.prompt.specs.declared.answers.Mistake.TheVariants as mistake
 use Rattle.bench.specs.declared.requests.Form.{Form}
-use Rattle.bench.specs.declared.requests.Request.{Request}
-use Rattle.bench.specs.declared.requests.Request.TheVariants.{Error, Asks}
+use Rattle.bench.specs.declared.requests.Word.{Word}
+use Rattle.bench.specs.declared.requests.Word.TheVariants.{Size, Peek, Sum, Check, Interrupt, Data, Show, Help, Poke, Fresh, Load, Read, Write, Reset, Timer, Step, Lap}
+use Rattle.bench.specs.declared.requests.Call.{Call}
+use Rattle.bench.specs.declared.requests.Call.TheVariants as call
 
 -- "at most 66,400": the bytes that may be lent
 abbrev pub NET : ℕ
@@ -21,75 +23,106 @@ NET = 66400
 abbrev pub LIST : ℕ
 LIST = 70
 
--- the bytes of a text
-abbrev pub bytes : String → List ℕ
-bytes none = []
-bytes (c and s) = code c ∷ bytes s
+-- the words, as they are typed
+abbrev pub words : List Word
+words = Size ∷ Peek ∷ Sum ∷ Check ∷ Interrupt ∷ Data ∷ Show ∷ Help ∷ Poke ∷ Fresh ∷ Load ∷ Read ∷ Write ∷ Reset ∷ Timer ∷ Step ∷ Lap ∷ []
 
--- a line of text for each row
-abbrev pub lines : List String → List ℕ
-lines [] = []
-lines (s ∷ ss) = bytes s ++ (NEWLINE ∷ lines ss)
+abbrev pub name_of : Word → List ℕ
+name_of Size = codes "size"
+name_of Peek = codes "peek"
+name_of Sum = codes "sum"
+name_of Check = codes "check"
+name_of Interrupt = codes "interrupt"
+name_of Data = codes "data"
+name_of Show = codes "show"
+name_of Help = codes "help"
+name_of Poke = codes "poke"
+name_of Fresh = codes "fresh"
+name_of Load = codes "load"
+name_of Read = codes "read"
+name_of Write = codes "write"
+name_of Reset = codes "reset"
+name_of Timer = codes "timer"
+name_of Step = codes "step"
+name_of Lap = codes "lap"
 
--- the words: the number of the call, the place where hex digits may stand, with numbers before it, and the fewest and the most words of the line
-abbrev pub TABLE : List ℕ
-TABLE =
-    lines
-    ("size 0 2 2 2"
-    ∷ "peek 1 3 3 3"
-    ∷ "sum 2 1 1 1"
-    ∷ "check 3 1 1 1"
-    ∷ "interrupt 4 2 2 2"
-    ∷ "data 5 3 3 3"
-    ∷ "show 6 1 1 1"
-    ∷ "help 7 1 1 1"
-    ∷ "poke 10 2 3 3"
-    ∷ "fresh 11 2 2 2"
-    ∷ "load 12 1 1 2"
-    ∷ "read 20 3 3 3"
-    ∷ "write 21 4 4 4"
-    ∷ "reset 22 2 2 2"
-    ∷ "timer 23 2 2 2"
-    ∷ "step 30 2 2 2"
-    ∷ "lap 31 2 2 2"
-    ∷ [])
+-- the word of a name, where there is one
+unfoldable pub named : List ℕ → Option Word
+named name = find (λ w. bytes_eq (name_of w) name) words
 
--- an unknown word has the form 0 0 0 0; no line has no words
-unfoldable pub form_of : List ℕ → Form
-form_of name = record { call = field 1; digits = field 2; fewest = field 3; most = field 4 }
-  where
-    field : ℕ → ℕ
-    field k = (number_of (word (row TABLE name) k)).value
+-- what a word takes: the place where hex digits may stand, with numbers before it, and the fewest and the most words of the line
+abbrev pub form : (digits fewest most : ℕ) → Form
+form digits fewest most = record { digits = digits; fewest = fewest; most = most }
+
+abbrev pub form_of : Word → Form
+form_of Size = form 2 2 2
+form_of Peek = form 3 3 3
+form_of Sum = form 1 1 1
+form_of Check = form 1 1 1
+form_of Interrupt = form 2 2 2
+form_of Data = form 3 3 3
+form_of Show = form 1 1 1
+form_of Help = form 1 1 1
+form_of Poke = form 2 3 3
+form_of Fresh = form 2 2 2
+form_of Load = form 1 1 2
+form_of Read = form 3 3 3
+form_of Write = form 4 4 4
+form_of Reset = form 2 2 2
+form_of Timer = form 2 2 2
+form_of Step = form 2 2 2
+form_of Lap = form 2 2 2
 
 -- the number that is word k; 0 where the numbers end before it
-unfoldable pub argument : List ℕ → ℕ → ℕ → Number
-argument line k end = pick (leb end k) (record { ok = true; value = 0 }) (number_of (word line k))
+abbrev pub given : Option ℕ → Result ℕ Mistake
+given (Some n) = Ok n
+given None = Err mistake.Number
 
--- the request, within the limits of the buffer and the list
-abbrev pub SIZE : ℕ
-SIZE = 0
+unfoldable pub argument : List ℕ → ℕ → ℕ → Result ℕ Mistake
+argument line k end = pick (leb end k) (Ok 0) (given (number_of (word line k)))
 
-abbrev pub LAP : ℕ
-LAP = 31
+-- the call, within the limits of the buffer and the list
+abbrev pub made : Word → (a b c : ℕ) → Result Call Mistake
+made Size a b c = pick (ltb NET a) (Err mistake.Size) (Ok (call.Size a))
+made Peek a b c = Ok (call.Peek a b)
+made Sum a b c = Ok call.Sum
+made Check a b c = Ok call.Check
+made Interrupt a b c = Ok (call.Interrupt a)
+made Data a b c = Ok (call.Data a b)
+made Show a b c = Ok call.Show
+made Help a b c = Ok call.Help
+made Poke a b c = Ok (call.Poke a)
+made Fresh a b c = Ok (call.Fresh a)
+made Load a b c = Ok call.Load
+made Read a b c = Ok (call.Read a b)
+made Write a b c = Ok (call.Write a b c)
+made Reset a b c = Ok (call.Reset a)
+made Timer a b c = Ok (call.Timer a)
+made Step a b c = Ok (call.Step a)
+made Lap a b c = pick (ltb LIST a) (Err mistake.Room) (Ok (call.Lap a))
 
-unfoldable pub made : ℕ → ℕ → ℕ → ℕ → Request
-made call a b c =
-    pick (eqb call SIZE && ltb NET a) (Error mistake.Size)
-    (pick (eqb call LAP && ltb LIST a) (Error mistake.Room)
-    (Asks (record { call = call; a = a; b = b; c = c })))
+-- a size is within the buffer
+abbrev pub Fits : Call → Type 0
+Fits (call.Size n) = n ≤ NET
+Fits _ = Unit {0}
 
--- the mistakes of a line whose first word has the form f, the first of which is told; or its request
-unfoldable pub asked_of : List ℕ → Form → Request
-asked_of line f =
-    pick (eqb f.most 0) (Error mistake.Word)
-    (pick (ltb (count line) f.fewest || ltb f.most (count line)) (Error mistake.Count)
-    (pick (not ((argument line 1 f.digits).ok && (argument line 2 f.digits).ok && (argument line 3 f.digits).ok)) (Error mistake.Number)
-    (pick (not (hex_fits (word line f.digits))) (Error mistake.Hex)
-    (made f.call (argument line 1 f.digits).value (argument line 2 f.digits).value (argument line 3 f.digits).value))))
+-- the mistakes of a line with this first word, the first of which is told; or what it asks
+abbrev pub with_value : {A B : Type 0} → Result A Mistake → (A → Result B Mistake) → Result B Mistake
+with_value (Ok v) f = f v
+with_value (Err m) f = Err m
 
--- what a line asks; one that did not fit the buffer is a mistake
-unfoldable pub asked : Bool → List ℕ → Request
-asked long line =
-    pick long (Error mistake.Long)
-    (pick (not (spaced true line)) (Error mistake.Spaces)
-    (asked_of line (form_of (word line 0))))
+unfoldable pub asked_of : List ℕ → Word → Result Call Mistake
+asked_of line w =
+    pick (ltb (count line) (form_of w).fewest || ltb (form_of w).most (count line)) (Err mistake.Count)
+    (with_value (argument line 1 (form_of w).digits) (λ a.
+    with_value (argument line 2 (form_of w).digits) (λ b.
+    with_value (argument line 3 (form_of w).digits) (λ c.
+    pick (not (hex_fits (word line (form_of w).digits))) (Err mistake.Hex) (made w a b c)))))
+
+-- what a line asks
+abbrev pub asks : List ℕ → Option Word → Result Call Mistake
+asks line (Some w) = asked_of line w
+asks line None = Err mistake.Word
+
+unfoldable pub asked : List ℕ → Result Call Mistake
+asked line = pick (not (spaced true line)) (Err mistake.Spaces) (asks line (named (word line 0)))

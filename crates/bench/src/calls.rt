@@ -1,27 +1,29 @@
 // The calls that the line and the desk do not have as they are. Where a write fails, its error is handed back, and the
 // network is as the call left it.
-ghost use Rattle.std.specs.Prelude.{◌≡◌, ◌≤◌, length};
+ghost use Rattle.std.specs.Prelude.{◌≡◌, ◌≤◌, length, is_ok};
+ghost use Rattle.told.specs.Refusals.{number};
 ghost use Rattle.words.specs.Hex.{unhex};
 ghost use Rattle.table.specs.Network.{row_limit};
+ghost use Rattle.orders.specs.Check.{verdict};
 ghost use Rattle.desk.specs.Load.{loading, net_after_load};
 ghost use Rattle.desk.specs.Lap.{net_after_lap};
 ghost use Rattle.prompt.specs.Input.{LINE};
 ghost use Rattle.bench.specs.Calls.{shape_number, inside, poked, wide_number, value_number, net_after_value};
 
 use desk::laps::{Taker, Walked};
-use orders::check::Checked;
-use print::gather::{ROOM, end, number, text};
-use prompt::answers::{numbered, tell};
+use orders::check::Bad;
+use print::gather::Output;
+use prompt::answers::{Mistake, tell};
 use std::io;
-use table::network::{ROWS, regs_at, shape};
-use told::numbers::{DONE, REGISTER, SHAPE, VALUE, refuse};
+use table::network::{regs_at, shape};
+use told::refusals::Refusal;
 
-// SHAPE alone: 0 where the network is well formed.
+// SHAPE alone.
 #[tactic(auto, unfolding(crate::specs::Calls::shape_number))]
-pub(crate) fn shape_number(net: &[u8]) -> u8
-    ensures { result ≡ shape_number net.now }
+pub(crate) fn check(net: &[u8]) -> Result<(), Refusal>
+    ensures { number result ≡ shape_number net.now }
 {
-    refuse(DONE, SHAPE, !shape(net))
+    Refusal::Shape.when(!shape(net))
 }
 
 // Whether the n bytes at `at` all stand inside the lent ones.
@@ -36,22 +38,22 @@ pub(crate) fn inside(net: &[u8], at: usize, n: usize) -> bool
 
 // Bytes are stored, where they all stand inside the lent ones; else nothing is.
 #[tactic(auto, using(words::proofs::Pairs::unhex_length), unfolding(crate::specs::Calls::poked))]
-pub(crate) fn poke(net: &mut [u8], at: usize, digits: &[u8]) -> bool
-    ensures done { result ≡ inside net.old at (length (unhex digits.now)) }
+pub(crate) fn poke(net: &mut [u8], at: usize, digits: &[u8]) -> Result<(), Mistake>
+    ensures done { is_ok result ≡ inside net.old at (length (unhex digits.now)) }
     ensures bytes { net.new ≡ poked net.old at (unhex digits.now) }
 {
     let n = digits.len() / 2;
     if !inside(net, at, n) {
-        return false;
+        return Err(Mistake::Outside);
     }
     words::hex::unhex(digits, &mut net[at..at + n]);
-    true
+    Ok(())
 }
 
 // The network is made anew from the order that the digits spell.
-pub(crate) fn load(net: &mut [u8], digits: &[u8]) -> Checked
+pub(crate) fn load(net: &mut [u8], digits: &[u8]) -> Result<(), Bad>
     requires { length digits.now ≤ LINE }
-    ensures told { result ≡ loading (unhex digits.now) net.old }
+    ensures told { verdict result ≡ loading (unhex digits.now) net.old }
     ensures bytes { net.new ≡ net_after_load (unhex digits.now) net.old }
 {
     let n = digits.len() / 2;
@@ -61,75 +63,56 @@ pub(crate) fn load(net: &mut [u8], digits: &[u8]) -> Checked
 }
 
 // A value above 255 has a bit that no register names: VALUE, unless SHAPE, ROW or REGISTER is the smaller number.
-fn wide_value(net: &[u8], row: usize, register: usize) -> u8
-    ensures { result ≡ wide_number net.now row register }
+#[tactic(auto, using(told::proofs::Told::Results::handed_number, told::proofs::Told::Results::stands, told::proofs::Told::Results::first_stands, told::proofs::Told::Results::then_asked), unfolding(crate::specs::Calls::wide_number))]
+fn refuse_wide(net: &[u8], row: usize, register: usize) -> Result<(), Refusal>
+    ensures { number result ≡ wide_number net.now row register }
 {
-    let number = table::calls::place_number(net, row);
-    if number != DONE {
-        return number;
-    }
-    let n = refuse(DONE, REGISTER, regs_at(net, row).no_register(register));
-    refuse(n, VALUE, true)
+    table::calls::place(net, row)?;
+    Refusal::Register.when(regs_at(net, row).no_register(register))?;
+    Err(Refusal::Value)
 }
 
 // A register of a row is written.
 #[tactic(auto, unfolding(crate::specs::Calls::value_number, crate::specs::Calls::net_after_value))]
-pub(crate) fn write(net: &mut [u8], row: usize, register: usize, value: usize) -> u8
-    ensures number { result ≡ value_number net.old row register value }
+pub(crate) fn write(
+    net: &mut [u8],
+    row: usize,
+    register: usize,
+    value: usize,
+) -> Result<(), Refusal>
+    ensures number { number result ≡ value_number net.old row register value }
     ensures bytes { net.new ≡ net_after_value net.old row register value }
 {
-    if 255 < value {
-        return wide_value(net, row, register);
+    match u8::try_from(value) {
+        Ok(value) => table::calls::write(net, row, register, value),
+        Err(_) => refuse_wide(net, row, register),
     }
-    table::calls::write(net, row, register, value as u8)
 }
 
 // The ID, the row and the invitations of a taker.
-fn taker(rt: &impl Print, out: &mut [u8; ROOM], n: usize, taker: Taker) -> io::Result<usize> {
-    let n = number(rt, out, n, taker.id as usize)?;
-    let n = number(rt, out, n, taker.row as usize)?;
-    number(rt, out, n, taker.invitations as usize)
-}
-
-fn takers(
-    rt: &impl Print,
-    out: &mut [u8; ROOM],
-    n: usize,
-    list: [Taker; ROWS],
-    count: usize,
-) -> io::Result<usize>
-    requires { count ≤ row_limit }
-{
-    let mut n = n;
-    for i in 0..count {
-        n = taker(rt, out, n, list[i])?;
-    }
-    Ok(n)
+fn taker<P: Print>(out: &mut Output<P>, taker: Taker) -> io::Result<()> {
+    out.number(taker.id as usize)?;
+    out.number(taker.row as usize)?;
+    out.number(taker.invitations as usize)
 }
 
 // DONE and the total, and the takers.
-fn lapped(rt: &impl Print, out: &mut [u8; ROOM], walked: Walked) -> io::Result<()>
-    requires { walked.n ≤ row_limit }
+fn lapped<P: Print>(out: &mut Output<P>, walked: &Walked) -> io::Result<()>
+    requires { walked.now.n ≤ row_limit }
 {
-    let n = text(rt, out, 0, b"DONE")?;
-    let n = number(rt, out, n, walked.lapped.total as usize)?;
-    let list = walked.list;
-    let n = takers(rt, out, n, list, walked.n)?;
-    end(rt, out, n)
+    out.text(b"DONE")?;
+    out.number(walked.total as usize)?;
+    for &t in &walked.list[..walked.n] {
+        taker(out, t)?;
+    }
+    out.end()
 }
 
-pub(crate) fn lap(
-    rt: &impl Print,
-    out: &mut [u8; ROOM],
-    net: &mut [u8],
-    room: usize,
-) -> io::Result<()>
+pub(crate) fn lap<P: Print>(out: &mut Output<P>, net: &mut [u8], room: usize) -> io::Result<()>
     ensures { net.new ≡ net_after_lap net.old room }
 {
-    let walked = desk::laps::walk(net, room);
-    let refusal = walked.lapped.number;
-    if refusal != 0 {
-        return tell(rt, out, numbered(refusal));
+    match desk::laps::walk(net, room) {
+        Ok(walked) => lapped(out, &walked),
+        Err(refusal) => tell(out, refusal),
     }
-    lapped(rt, out, walked)
 }

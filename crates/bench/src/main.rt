@@ -6,59 +6,57 @@ mod calls;
 mod requests;
 mod turns;
 
-ghost use Rattle.std.specs.Prelude.{◌≡◌, ◌≤◌, length, IfOk};
-ghost use Rattle.prompt.specs.Input.{LINE, Within};
+ghost use Rattle.std.specs.Prelude.{◌≡◌, ◌≤◌, IfOk, IfErr};
 ghost use Rattle.bench.specs.Requests.{NET};
 
-use print::gather::ROOM;
-use prompt::input;
-use prompt::input::{Input, LINE};
+use print::gather::Output;
+use prompt::answers::{Mistake, tell};
+use prompt::input::{Input, Line};
 use std::io;
 use std::io::Read;
 use turns::NET;
 
-// The line that was taken is answered, with the first `size` bytes lent. It hands back the current length.
-fn answered(
-    rt: &impl Print,
+// What was taken is answered, with the first `size` bytes lent; a line that did not fit leaves all as it was. It hands
+// back the current length.
+fn answered<P: Print>(
+    out: &mut Output<P>,
     net: &mut [u8; NET],
     size: usize,
-    lines: &[u8],
-    input: Input,
-    out: &mut [u8; ROOM],
+    input: &Input,
+    taken: Result<Line, Mistake>,
 ) -> io::Result<usize>
-    requires { (size ≤ NET) × (length lines.now ≡ LINE) × Within input }
-    ensures { IfOk result (λ n. n ≤ NET) }
+    requires { size ≤ NET }
+    ensures size { IfOk result (λ n. n ≤ NET) }
+    ensures mistaken { IfErr taken (λ m. (net.new ≡ net.old) × IfOk result (λ n. n ≡ size)) }
 {
-    let from = input.from;
-    let end = input.end;
-    turns::turn(rt, net, size, &lines[from..end], input.long, out)
+    match taken {
+        Ok(line) => turns::turn(out, net, size, input.text(line)),
+        Err(mistake) => {
+            tell(out, mistake)?;
+            Ok(size)
+        }
+    }
 }
 
-fn run(
-    rt: &impl Print,
+fn run<P: Print>(
+    out: &mut Output<P>,
     stdin: &mut impl Read,
+    input: &mut Input,
     net: &mut [u8; NET],
-    lines: &mut [u8; LINE],
-    out: &mut [u8; ROOM],
 ) -> io::Result<()> {
     let mut size = 0;
-    let mut input = Input::none();
     // A proved loop has to end, and nothing says that the input does: no run uses up this count.
-    let mut turns = u64::MAX;
-    while 0 < turns {
-        input = input::next(stdin, lines, input)?;
-        if input.over {
-            return Ok(());
-        }
-        size = answered(rt, net, size, lines, input, out)?;
-        turns -= 1;
+    for _ in 0..u64::MAX {
+        let Some(taken) = input.next(stdin)? else {
+            break;
+        };
+        size = answered(out, net, size, input, taken)?;
     }
     Ok(())
 }
 
 fn main(rt: HostRuntime) -> io::Result<()> {
     let mut net = [0u8; NET];
-    let mut lines = [0u8; LINE];
-    let mut out = [0u8; ROOM];
-    run(&rt, &mut rt.stdin(), &mut net, &mut lines, &mut out)
+    let mut input = Input::new();
+    run(&mut Output::new(&rt), &mut rt.stdin(), &mut input, &mut net)
 }

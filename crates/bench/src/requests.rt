@@ -1,164 +1,212 @@
 // What a line asks: its first word, and the numbers and bytes after it.
-ghost use Rattle.std.specs.Prelude.{◌≡◌};
-ghost use Rattle.bench.specs.Requests.{form_of, argument, made, asked_of, asked};
+ghost use Rattle.std.specs.Prelude.{◌≡◌, IfOk};
+ghost use Rattle.bench.specs.Requests.{name_of, form_of, named, argument, made, asked_of, asked, Fits};
 
 use crate::turns::NET;
 use prompt::answers::Mistake;
 use words::hex::hex_fits;
-use words::numbers::{Number, number_at};
-use words::words::{count, row, spaced, word};
+use words::numbers::number_at;
+use words::words::{count, spaced, word};
 
 // The entries that may be lent to a lap.
 const LIST: usize = 70;
 
-// The numbers of the calls, but for the last of each ten, `help`, `load` and `timer`, which are what is left there. The
-// tens tell what a call has to do with: it looks at the network, or it changes bytes, a row, or the line.
-pub(crate) const SIZE: usize = 0;
-
-pub(crate) const PEEK: usize = 1;
-
-pub(crate) const SUM: usize = 2;
-
-pub(crate) const CHECK: usize = 3;
-
-pub(crate) const INTERRUPT: usize = 4;
-
-pub(crate) const DATA: usize = 5;
-
-pub(crate) const SHOW: usize = 6;
-
-pub(crate) const POKE: usize = 10;
-
-pub(crate) const FRESH: usize = 11;
-
-pub(crate) const READ: usize = 20;
-
-pub(crate) const WRITE: usize = 21;
-
-pub(crate) const RESET: usize = 22;
-
-pub(crate) const STEP: usize = 30;
-
-const LAP: usize = 31;
-
-// What a word asks and takes: the number of its call, the place in its line where hex digits may stand, with numbers
-// before it, and the fewest and the most words of the line.
+// What a line may begin with.
 #[derive(Clone, Copy)]
-struct Form {
-    call: usize,
+pub(crate) enum Word {
+    Size,
+    Peek,
+    Sum,
+    Check,
+    Interrupt,
+    Data,
+    Show,
+    Help,
+    Poke,
+    Fresh,
+    Load,
+    Read,
+    Write,
+    Reset,
+    Timer,
+    Step,
+    Lap,
+}
+
+const WORDS: [Word; 17] = [
+    Word::Size,
+    Word::Peek,
+    Word::Sum,
+    Word::Check,
+    Word::Interrupt,
+    Word::Data,
+    Word::Show,
+    Word::Help,
+    Word::Poke,
+    Word::Fresh,
+    Word::Load,
+    Word::Read,
+    Word::Write,
+    Word::Reset,
+    Word::Timer,
+    Word::Step,
+    Word::Lap,
+];
+
+// What a word takes: the place in its line where hex digits may stand, with numbers before it, and the fewest and the
+// most words of the line.
+#[derive(Clone, Copy)]
+pub(crate) struct Form {
     digits: usize,
     fewest: usize,
     most: usize,
 }
 
-// A call's number, and the numbers after its word.
+// A call, with the numbers after its word; the hex digits of `poke` and `load` stand in the line.
 #[derive(Clone, Copy)]
-pub(crate) struct Call {
-    pub(crate) call: usize,
-    pub(crate) a: usize,
-    pub(crate) b: usize,
-    pub(crate) c: usize,
+pub(crate) enum Call {
+    Size(usize),
+    Peek { at: usize, count: usize },
+    Sum,
+    Check,
+    Interrupt { row: usize },
+    Data { row: usize, page: usize },
+    Show,
+    Help,
+    Poke { at: usize },
+    Fresh { rows: usize },
+    Load,
+    Read { row: usize, register: usize },
+    Write { row: usize, register: usize, value: usize },
+    Reset { row: usize },
+    Timer { row: usize },
+    Step { fault: usize },
+    Lap { room: usize },
 }
 
-#[derive(Clone, Copy)]
-pub(crate) enum Request {
-    Error(Mistake),
-    Asks(Call),
-}
+impl Word {
+    fn name(self) -> &'static str
+        ensures { result.now ≡ name_of self }
+    {
+        match self {
+            Word::Size => "size",
+            Word::Peek => "peek",
+            Word::Sum => "sum",
+            Word::Check => "check",
+            Word::Interrupt => "interrupt",
+            Word::Data => "data",
+            Word::Show => "show",
+            Word::Help => "help",
+            Word::Poke => "poke",
+            Word::Fresh => "fresh",
+            Word::Load => "load",
+            Word::Read => "read",
+            Word::Write => "write",
+            Word::Reset => "reset",
+            Word::Timer => "timer",
+            Word::Step => "step",
+            Word::Lap => "lap",
+        }
+    }
 
-// The words: each with its form.
-const TABLE: [u8; 238] = *b"size 0 2 2 2\n\
-    peek 1 3 3 3\n\
-    sum 2 1 1 1\n\
-    check 3 1 1 1\n\
-    interrupt 4 2 2 2\n\
-    data 5 3 3 3\n\
-    show 6 1 1 1\n\
-    help 7 1 1 1\n\
-    poke 10 2 3 3\n\
-    fresh 11 2 2 2\n\
-    load 12 1 1 2\n\
-    read 20 3 3 3\n\
-    write 21 4 4 4\n\
-    reset 22 2 2 2\n\
-    timer 23 2 2 2\n\
-    step 30 2 2 2\n\
-    lap 31 2 2 2\n";
+    fn form(self) -> Form
+        ensures { result ≡ form_of self }
+    {
+        let (digits, fewest, most) = match self {
+            Word::Sum | Word::Check | Word::Show | Word::Help => (1, 1, 1),
+            Word::Load => (1, 1, 2),
+            Word::Size | Word::Interrupt | Word::Fresh | Word::Reset => (2, 2, 2),
+            Word::Timer | Word::Step | Word::Lap => (2, 2, 2),
+            Word::Poke => (2, 3, 3),
+            Word::Peek | Word::Data | Word::Read => (3, 3, 3),
+            Word::Write => (4, 4, 4),
+        };
+        Form {
+            digits,
+            fewest,
+            most,
+        }
+    }
 
-// The form of a word. An unknown word's form is all zeros, and no line has no words.
-#[tactic(auto, unfolding(crate::specs::Requests::form_of))]
-fn form_of(name: &[u8]) -> Form
-    ensures { result ≡ form_of name.now }
-{
-    let form = row(&TABLE, name);
-    Form {
-        call: number_at(form, 1).value,
-        digits: number_at(form, 2).value,
-        fewest: number_at(form, 3).value,
-        most: number_at(form, 4).value,
+    fn named(name: &[u8]) -> Option<Word>
+        ensures { result ≡ named name.now }
+    {
+        WORDS.iter().copied().find(|w| w.name().as_bytes() == name)
+    }
+
+    // The call with its numbers, within the limits of the buffer and the list.
+    fn made(self, a: usize, b: usize, c: usize) -> Result<Call, Mistake>
+        ensures call { result ≡ made self a b c }
+        ensures within { IfOk result Fits }
+    {
+        let call = match self {
+            Word::Size if NET < a => return Err(Mistake::Size),
+            Word::Size => Call::Size(a),
+            Word::Peek => Call::Peek { at: a, count: b },
+            Word::Sum => Call::Sum,
+            Word::Check => Call::Check,
+            Word::Interrupt => Call::Interrupt { row: a },
+            Word::Data => Call::Data { row: a, page: b },
+            Word::Show => Call::Show,
+            Word::Help => Call::Help,
+            Word::Poke => Call::Poke { at: a },
+            Word::Fresh => Call::Fresh { rows: a },
+            Word::Load => Call::Load,
+            Word::Read => Call::Read { row: a, register: b },
+            Word::Write => Call::Write { row: a, register: b, value: c },
+            Word::Reset => Call::Reset { row: a },
+            Word::Timer => Call::Timer { row: a },
+            Word::Step => Call::Step { fault: a },
+            Word::Lap if LIST < a => return Err(Mistake::Room),
+            Word::Lap => Call::Lap { room: a },
+        };
+        Ok(call)
     }
 }
 
 // The number that is word k of the line; 0 where the numbers end before it.
 #[tactic(auto, unfolding(crate::specs::Requests::argument))]
-fn argument(line: &[u8], k: usize, end: usize) -> Number
+fn argument(line: &[u8], k: usize, end: usize) -> Result<usize, Mistake>
     ensures { result ≡ argument line.now k end }
 {
     if end <= k {
-        return Number { ok: true, value: 0 };
+        return Ok(0);
     }
-    number_at(line, k)
+    number_at(line, k).ok_or(Mistake::Number)
 }
 
-// A request with its numbers, within the limits of the buffer and the list.
-#[tactic(auto, unfolding(crate::specs::Requests::made))]
-fn made(call: usize, a: usize, b: usize, c: usize) -> Request
-    ensures { result ≡ made call a b c }
-{
-    if (call == SIZE) & (NET < a) {
-        return Request::Error(Mistake::Size);
-    }
-    if (call == LAP) & (LIST < a) {
-        return Request::Error(Mistake::Room);
-    }
-    Request::Asks(Call { call, a, b, c })
-}
-
-// What a line whose first word has this form asks; the first of the mistakes that it has.
+// What a line with this first word asks; the first of the mistakes that it has.
 #[tactic(auto, unfolding(crate::specs::Requests::asked_of))]
-fn asked_of(line: &[u8], form: Form) -> Request
-    ensures { result ≡ asked_of line.now form }
+fn asked_of(line: &[u8], first: Word) -> Result<Call, Mistake>
+    ensures call { result ≡ asked_of line.now first }
+    ensures within { IfOk result Fits }
 {
-    if form.most == 0 {
-        return Request::Error(Mistake::Word);
-    }
+    let form = first.form();
     let words = count(line);
     if (words < form.fewest) | (form.most < words) {
-        return Request::Error(Mistake::Count);
+        return Err(Mistake::Count);
     }
-    let a = argument(line, 1, form.digits);
-    let b = argument(line, 2, form.digits);
-    let c = argument(line, 3, form.digits);
-    if !(a.ok & b.ok & c.ok) {
-        return Request::Error(Mistake::Number);
-    }
+    let a = argument(line, 1, form.digits)?;
+    let b = argument(line, 2, form.digits)?;
+    let c = argument(line, 3, form.digits)?;
     // A word that is not there is empty, and fits.
     if !hex_fits(word(line, form.digits)) {
-        return Request::Error(Mistake::Hex);
+        return Err(Mistake::Hex);
     }
-    made(form.call, a.value, b.value, c.value)
+    first.made(a, b, c)
 }
 
-// What a line asks, of which `long` says that it did not fit.
+// What a line asks.
 #[tactic(auto, unfolding(crate::specs::Requests::asked))]
-pub(crate) fn asked(long: bool, line: &[u8]) -> Request
-    ensures { result ≡ asked long line.now }
+pub(crate) fn asked(line: &[u8]) -> Result<Call, Mistake>
+    ensures call { result ≡ asked line.now }
+    ensures within { IfOk result Fits }
 {
-    if long {
-        return Request::Error(Mistake::Long);
-    }
     if !spaced(line) {
-        return Request::Error(Mistake::Spaces);
+        return Err(Mistake::Spaces);
     }
-    asked_of(line, form_of(word(line, 0)))
+    let Some(first) = Word::named(word(line, 0)) else {
+        return Err(Mistake::Word);
+    };
+    asked_of(line, first)
 }

@@ -13,6 +13,7 @@ pub const ROOM: usize = 4096;
 const DIGITS: [u8; 16] = *b"0123456789ABCDEF";
 
 // The text that is on its way to `to`: the first `count` bytes of `held`.
+#[derive(Drop)]
 pub struct Output<'a, P: Print> {
     to: &'a P,
     held: [u8; ROOM],

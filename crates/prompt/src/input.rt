@@ -19,6 +19,7 @@ pub struct Line {
 }
 
 // What was read, of which the bytes from `next` to `to` are not taken yet.
+#[derive(Drop)]
 pub struct Input {
     held: [u8; LINE],
     next: usize,
