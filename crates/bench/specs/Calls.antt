@@ -3,6 +3,7 @@
 use Rattle.std.specs.Prelude.{Bool, true, not, List, [], ◌∷◌, ◌++◌, ℕ, ◌+◌, leb, length, take, drop}
 use Rattle.bits.specs.Words.{pick}
 use Rattle.told.specs.Numbers.{SHAPE, REGISTER, VALUE, Refusal, ◌when◌, told}
+use Rattle.registers.specs.declared.regs.Regs.{Regs}
 use Rattle.registers.specs.Refusals.{no_register}
 use Rattle.table.specs.Network.{regs_at, shape}
 use Rattle.table.specs.Calls.{place_refusals, net_write_number, net_after_write}
@@ -22,8 +23,11 @@ unfoldable pub poked : List ℕ → ℕ → List ℕ → List ℕ
 poked net at s = pick (inside net at (length s)) (take at net ++ (s ++ drop (at + length s) net)) net
 
 -- a value above 255 is VALUE, unless SHAPE, ROW or REGISTER is the smaller number
+abbrev pub value_refusals : Regs → ℕ → List Refusal
+value_refusals g register = REGISTER when no_register g register ∷ VALUE when true ∷ []
+
 abbrev pub wide_refusals : List ℕ → ℕ → ℕ → List Refusal
-wide_refusals net row register = place_refusals net row ++ (REGISTER when no_register (regs_at net row) register ∷ VALUE when true ∷ [])
+wide_refusals net row register = place_refusals net row ++ value_refusals (regs_at net row) register
 
 unfoldable pub wide_number : List ℕ → ℕ → ℕ → ℕ
 wide_number net row register = told (wide_refusals net row register)

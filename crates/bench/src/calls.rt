@@ -1,6 +1,7 @@
 // The calls that the line and the desk do not have as they are. Where a write fails, its error is handed back, and the
 // network is as the call left it.
 ghost use Rattle.std.specs.Prelude.{◌≡◌, ◌≤◌, length, is_ok};
+ghost use Rattle.told.specs.Numbers.{told};
 ghost use Rattle.told.specs.Refusals.{number};
 ghost use Rattle.words.specs.Hex.{unhex};
 ghost use Rattle.table.specs.Network.{row_limit};
@@ -8,12 +9,13 @@ ghost use Rattle.orders.specs.Check.{verdict};
 ghost use Rattle.desk.specs.Load.{loading, net_after_load};
 ghost use Rattle.desk.specs.Lap.{net_after_lap};
 ghost use Rattle.prompt.specs.Input.{LINE};
-ghost use Rattle.bench.specs.Calls.{shape_number, inside, poked, wide_number, value_number, net_after_value};
+ghost use Rattle.bench.specs.Calls.{shape_number, inside, poked, value_refusals, wide_number, value_number, net_after_value};
 
 use desk::laps::{Taker, Walked};
 use orders::check::Bad;
 use print::gather::Output;
 use prompt::answers::{Mistake, tell};
+use registers::regs::Regs;
 use std::io;
 use table::network::{regs_at, shape};
 use told::refusals::Refusal;
@@ -62,14 +64,22 @@ pub(crate) fn load(net: &mut [u8], digits: &[u8]) -> Result<(), Bad>
     desk::loading::load(&order[0..n], net)
 }
 
-// A value above 255 has a bit that no register names: VALUE, unless SHAPE, ROW or REGISTER is the smaller number.
-#[tactic(auto, using(told::proofs::Told::Results::handed_number, told::proofs::Told::Results::stands, told::proofs::Told::Results::first_stands, told::proofs::Told::Results::then_asked), unfolding(crate::specs::Calls::wide_number))]
+// A value above 255 has a bit that no register names: REGISTER, or else VALUE.
+#[tactic(auto, using(told::proofs::Told::Results::handed_number, told::proofs::Told::Results::stands))]
+fn wide_value(g: Regs, register: usize) -> Result<(), Refusal>
+    ensures { number result ≡ told (value_refusals g register) }
+{
+    Refusal::Register.when(g.no_register(register))?;
+    Refusal::Value.when(true)
+}
+
+// SHAPE and ROW come before it.
+#[tactic(auto, using(told::proofs::Told::Results::asking, table::proofs::Access::Handed::room_behind), unfolding(crate::specs::Calls::wide_number, table::specs::Calls::place_number))]
 fn refuse_wide(net: &[u8], row: usize, register: usize) -> Result<(), Refusal>
     ensures { number result ≡ wide_number net.now row register }
 {
     table::calls::place(net, row)?;
-    Refusal::Register.when(regs_at(net, row).no_register(register))?;
-    Err(Refusal::Value)
+    wide_value(regs_at(net, row), register)
 }
 
 // A register of a row is written.

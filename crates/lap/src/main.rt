@@ -5,45 +5,28 @@
 
 mod clerk;
 
-ghost use Rattle.std.specs.Prelude.{◌≡◌, length, ◌+◌, ◌*◌, ◌≤◌, IfOk};
+ghost use Rattle.std.specs.Prelude.{length, ◌+◌, ◌*◌, ◌≤◌, IfOk};
 ghost use Rattle.table.specs.Network.{row_limit};
 ghost use Rattle.table.specs.Calls.{exact_length};
-ghost use Rattle.desk.specs.Lap.{lapped, net_after_lap, list_after_lap, nobody};
 ghost use Rattle.orders.specs.Form.{record_bytes};
 
-use desk::laps::{Lapped, Taker, nobody};
+use desk::laps::{Taker, nobody};
 use orders::form::{RECORD, name_at, records};
 use std::io;
-use std::io::{Read, Stderr};
+use std::io::Read;
 use table::calls::{LONGEST, exact_length};
 use table::network::ROWS;
+use told::refusals::Refusal;
 
 // A byte more than the longest order, so that a longer one is seen to be too long.
 const ORDER: usize = RECORD * ROWS + 1;
 
-// What the lap call answers, and the list that it was lent.
-#[derive(Clone, Copy)]
-struct Listed {
-    lapped: Lapped,
-    list: [Taker; ROWS],
-}
-
-// The lap call, lent a list of ROWS entries with nobody in it.
-fn lap_list(net: &mut [u8]) -> Listed
-    ensures { (result.lapped ≡ lapped net.old row_limit)
-        × (net.new ≡ net_after_lap net.old row_limit)
-        × (result.list ≡ list_after_lap net.old nobody) }
-{
-    let mut list = nobody();
-    let lapped = desk::laps::lap(net, &mut list);
-    Listed { lapped, list }
-}
-
-fn refuse(rt: &impl Print, number: u8, bad: usize) -> io::Result<()> {
+// The number, and the record that is named, from 1 (C-12).
+fn refuse(rt: &impl Print, refusal: Refusal, record: Option<usize>) -> io::Result<()> {
     print::text(rt, b"REFUSED")?;
-    print::number(rt, number as usize)?;
-    if bad != 0 {
-        print::number(rt, bad)?;
+    print::number(rt, refusal.number() as usize)?;
+    if let Some(k) = record {
+        print::number(rt, k.saturating_add(1))?;
     }
     print::text(rt, b"\n")
 }
@@ -58,45 +41,45 @@ fn taker(rt: &impl Print, order: &[u8], t: Taker) -> io::Result<()> {
     print::text(rt, b"\n")
 }
 
-// The n records of the order are n nodes on line: the first n entries of the list are their takers.
-fn takers(rt: &impl Print, order: &[u8], l: Listed, n: usize) -> io::Result<()>
-    requires { n ≤ row_limit }
-{
+// The invitations of a lap, and its takers.
+fn takers(rt: &impl Print, order: &[u8], total: u16, list: &[Taker]) -> io::Result<()> {
     print::text(rt, b"LAP")?;
-    print::number(rt, n)?;
+    print::number(rt, list.len())?;
     print::text(rt, b" NODES")?;
-    print::number(rt, l.lapped.total as usize)?;
+    print::number(rt, total as usize)?;
     print::text(rt, b" INVITATIONS\n")?;
-    let list = l.list;
-    for i in 0..n {
-        taker(rt, order, list[i])?;
+    for &t in list {
+        taker(rt, order, t)?;
     }
     Ok(())
 }
 
-// The order is loaded into a network of its length, which is lent, and its lap is run.
-fn answer(rt: &impl Print, err: Stderr, order: &[u8], net: &mut [u8]) -> io::Result<()>
+// The order is loaded into a network of its length, which is lent, and its lap is run, lent a list of ROWS entries with
+// nobody in it. The n records of the order are n nodes on line: the first n entries of the list are their takers.
+fn answer(rt: &impl Print, err: &impl Print, order: &[u8], net: &mut [u8]) -> io::Result<()>
     requires order_len_bound { length order.now ≤ record_bytes * row_limit + 1 }
     requires row_limit_in_bounds { exact_length row_limit ≤ length net.old }
 {
     let n = records(order);
     let size = exact_length(n);
-    let checked = desk::loading::load(order, &mut net[0..size]);
-    if checked.number != 0 {
-        refuse(rt, checked.number, checked.bad)?;
-        return clerk::unfit(err, order, checked);
+    if let Err(bad) = desk::loading::load(order, &mut net[..size]) {
+        refuse(rt, bad.refusal, bad.record)?;
+        return clerk::unfit(err, order, bad);
     }
-    let l = lap_list(&mut net[0..size]);
-    if l.lapped.number != 0 {
-        // An order that was loaded is refused for one record alone, since the list has room (`TheLoading.lap`).
-        refuse(rt, l.lapped.number, 0)?;
-        return clerk::alone(err);
+    let mut list = nobody();
+    match desk::laps::lap(&mut net[..size], &mut list) {
+        Ok(total) => takers(rt, order, total, &list[..n]),
+        Err(refusal) => {
+            // An order that was loaded is refused for one record alone, since the list has room (`TheLoading.lap`).
+            refuse(rt, refusal, None)?;
+            clerk::alone(err)
+        }
     }
-    takers(rt, order, l, n)
 }
 
 // Reads until the buffer is full or the input ends. It hands back how many bytes were read; where a read fails, its error,
 // and the buffer has what was read before.
+// Kept: the library's read_exact refuses an input that ends early, and does not say how much came.
 fn read_full(stdin: &mut impl Read, buffer: &mut [u8]) -> io::Result<usize>
     ensures { IfOk result (λ n. n ≤ length buffer.new) }
 {
@@ -115,5 +98,5 @@ fn main(rt: HostRuntime) -> io::Result<()> {
     let mut order = [0u8; ORDER];
     let mut net = [0u8; LONGEST];
     let read = read_full(&mut rt.stdin(), &mut order)?;
-    answer(&rt, rt.stderr(), &order[0..read], &mut net)
+    answer(&rt, &rt.stderr(), &order[..read], &mut net)
 }

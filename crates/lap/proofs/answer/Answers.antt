@@ -1,9 +1,11 @@
 -- The network of an order that fits the buffer fits its own.
-use Rattle.std.proofs.Common.{◌≡◌, ℕ, ◌+◌, ◌*◌, ◌≤◌, List, length, arith}
+use Rattle.std.proofs.Common.{◌≡◌, ℕ, ◌+◌, ◌*◌, ◌≤◌, List, length, Option, Some, None, arith}
+use Rattle.std.specs.Prelude.{IfSome}
 use Rattle.table.specs.Network.{row_limit}
 use Rattle.table.specs.Calls.{exact_length}
 use Rattle.table.proofs.Access.Fresh.{exact_mono}
 use Rattle.orders.specs.Form.{record_bytes, records}
+use Rattle.orders.specs.Check.{record_from_1}
 use Rattle.orders.proofs.Forms.Records.{records_within}
 use Rattle.desk.proofs.Loads.Loaded.{load_within}
 use Rattle.lap.proofs.answer.Goals as goal
@@ -16,6 +18,11 @@ room : (order net : List ℕ) (n size : ℕ) → n ≡ records order → length 
     → size ≡ exact_length n → size ≤ length net
 room order net n size e h r s = omega (arith, s, exact_mono n row_limit (few order n e h), r)
 
+-- the record that is named, counted from 0
+from_0 : (k : Option ℕ) (n : ℕ) → record_bytes * record_from_1 k ≤ n → IfSome k (λ k. record_bytes * k + record_bytes ≤ n)
+from_0 None n h = tt
+from_0 (Some k) n h = omega (arith, h)
+
 pub exact_length-size-requires : goal.exact_length-size-requires
 exact_length-size-requires g c = let f = few _ _ c.records-n.ensures c.requires.order_len_bound in omega arith
 
@@ -24,7 +31,4 @@ slice_bounds-load-end g c = room _ _ _ _ c.records-n.ensures c.requires.order_le
 
 -- the record that a refusal names is one of the order's
 pub unfit-requires : goal.unfit-requires
-unfit-requires g c = load_within _ _ _ c.load-checked.ensures.told
-
-pub takers-requires : goal.takers-requires
-takers-requires g c = few _ _ c.records-n.ensures c.requires.order_len_bound
+unfit-requires g c = from_0 _ _ (load_within _ _ _ c.in-Err.ensures.told)
