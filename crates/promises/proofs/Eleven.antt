@@ -5,11 +5,14 @@ use mathlib.Core.Bool.{true, false, false≢true}
 use mathlib.Core.List.{List}
 use mathlib.Core.Logic.{⊎_elim}
 use Prim.Native.Nat.{ℕ}
+use native.Mathlib.Omega.{arith}
 use lib.Dec.{eqb}
 use borrow.Author.Tests.{eqb-false}
 use Rattle.bits.specs.Words.{among}
 use Rattle.bits.proofs.Words.Bools.{cases}
+use Rattle.told.specs.Refusals.{number_of}
 use Rattle.told.proofs.Told.Smallest.{numbers_rise, never_11}
+use Rattle.told.proofs.Told.One.{refusal_of, refusal_back}
 use Rattle.table.specs.Network.{phase, LOST, shape}
 use Rattle.table.proofs.Shaped.Shapes.{shape_holder}
 use Rattle.line.proofs.Steps.Refused.{step_shadowed}
@@ -43,4 +46,5 @@ number_eleven = record {
   load = load_never;
   any_call = never_11;
   once = numbers_rise;
+  no_refusal = λ e h. omega (arith, sym h ∙ ap number_of (sym (refusal_back e) ∙ ap refusal_of h));
 }

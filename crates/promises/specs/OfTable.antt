@@ -26,6 +26,7 @@ pub record OfTable : Type 2 where
   pub turn : Fixed contracts.network.turn.ended network.turn.Reads.Learnt
   pub node_of : Fixed contracts.network.node_of.ended network.node_of.Reads.Learnt
   pub top_id : Fixed contracts.network.top_id.ended network.top_id.Reads.Learnt
+  -- a walk is compared by its bytes and by how many rows are behind it
   pub first : Fixed contracts.walk.Rows.first.ended walk.Rows.first.Reads.Learnt
   -- of a closure that leaves one row of a row and its number
   pub each_row_mut : (F : RattleType) (laws : Laws F) (calls : contracts.walk.each_row_mut.F-Fn.Ghosts F) (d d₁ d₂ d₃ : Dict)

@@ -7,6 +7,8 @@ use Rattle.registers.specs.Sides.{chaining}
 use Rattle.registers.specs.Naks.{naks}
 use Rattle.registers.specs.Plain.{Plain}
 use Rattle.registers.specs.Unrefused.{Unrefused}
+use Rattle.told.specs.declared.refusals.Refusal as kinds
+use Rattle.told.specs.Refusals.{number_of}
 use Rattle.told.specs.Numbers.{ALONE, ROOM, numbers, Refusal, ◌when◌, told, rises, Smallest}
 use Rattle.card.specs.Packets.{shape_of, data_bytes, CanBeSent, malformed}
 use Rattle.card.specs.Moves.{OnlyAt}
@@ -76,8 +78,8 @@ abbrev pub holder_off_line : List ℕ → Bool
 holder_off_line net = not (eqb (phase net) LOST) && not (on_line_at net (holder net))
 
 -- "a line step can never answer" it, "because SHAPE comes first": SHAPE refuses such a network, and a step that asked this test too, behind its others, would tell
--- no other number. "Its number is not given again": the numbers rise, so that each is given once, and no call tells 11, whatever its bytes; of those whose smallest
--- number wins that is said in general
+-- no other number. "Its number is not given again": the numbers rise, so that each is given once, no refusal has 11, and no call tells it, whatever its bytes; of
+-- those whose smallest number wins that is said in general
 pub record NumberEleven : Type 0 where
   pub shape_first : (net : List ℕ) → holder_off_line net ≡ true → shape net ≡ false
   pub asked_too : (net : List ℕ) (fault : ℕ) → told (step_refusals net fault ++ (11 when holder_off_line net ∷ [])) ≡ answer_number (step net fault).answer
@@ -86,6 +88,7 @@ pub record NumberEleven : Type 0 where
   pub load : (order net : List ℕ) → load_number order net ≡ 11 → ⊥
   pub any_call : (l : List Refusal) (n : ℕ) → Smallest l n → n ≡ 11 → ⊥
   pub once : rises numbers ≡ true
+  pub no_refusal : (e : kinds.Refusal) → number_of e ≡ 11 → ⊥
 
 -- ---- a call leaves a well-formed network well formed, and what the fresh call and loading make is so: no call can bring the bench where SHAPE refuses it
 pub record StaysWellFormed : Type 0 where
