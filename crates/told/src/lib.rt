@@ -1,5 +1,4 @@
-// The numbers a caller may get, and how those of a call make the one that is told.
+// What a call is refused with: the refusals, their numbers and their names.
 #![tactic(auto)]
 
-pub mod numbers;
 pub mod refusals;

@@ -7,7 +7,6 @@ use Rattle.promises.proofs.Once.Same.{told, told_by}
 
 pub told_once : OfTold
 told_once = record {
-  refuse = (λ _ _. tt, λ _ _ _ _ _ _. told refl);
   number = (λ _ _. tt, λ _ _ _ _ _ _. told refl);
   name = (λ _ _. tt, λ _ _ _ _ _ _. told refl);
   when = (λ _ _. tt, λ _ _ _ _ _ _. told_by number_one refl);
