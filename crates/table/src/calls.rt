@@ -46,6 +46,7 @@ pub fn read(net: &mut [u8], row: usize, register: usize) -> Result<u8, Refusal>
 
 // Row k, as a call has left it, was on line before the call or was not: the row that comes on line bursts, and the
 // line is lost with it, or with a holder that goes off line.
+#[tactic(auto, using(crate::proofs::Rows::Starts::start_header, crate::proofs::Access::Settled::settle_stays, crate::proofs::Access::Settled::settle_bursts, crate::proofs::Access::Settled::settle_lost, crate::proofs::Access::Settled::settle_kept))]
 fn settle(net: &mut [u8], k: usize, was: bool)
     requires { row_start net.old (suc k) ≤ length net.old }
     ensures { net.new ≡ settled net.old k was }

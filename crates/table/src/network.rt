@@ -77,6 +77,7 @@ pub fn row_end(net: &[u8], a: usize) -> usize
 }
 
 // The row that starts at a. Whoever goes over all rows carries a along, and walks once.
+#[tactic(auto, using(crate::proofs::Rows::Walks::row_sized, places::proofs::Places::onward_part))]
 pub fn row_from(net: &[u8], a: usize) -> &[u8]
     requires { a + row_size (drop a net.now) ≤ length net.now }
     ensures bytes { result.now ≡ take (row_size (drop a net.now)) (drop a net.now) }
@@ -88,6 +89,7 @@ pub fn row_from(net: &[u8], a: usize) -> &[u8]
 }
 
 // A row's part of the network.
+#[tactic(auto, using(crate::proofs::Rows::Walks::walked_room, crate::proofs::Rows::Walks::walked_row))]
 pub fn row_at(net: &[u8], k: usize) -> &[u8]
     requires { row_start net.now (suc k) ≤ length net.now }
     ensures bytes { result.now ≡ row_at net.now k }
@@ -105,6 +107,7 @@ pub fn regs_at(net: &[u8], k: usize) -> Regs
 }
 
 // One row is given other registers.
+#[tactic(auto, using(crate::proofs::Rows::Walks::walked_room, crate::proofs::Rows::Walks::row_sized))]
 pub fn put_regs(net: &mut [u8], k: usize, g: Regs)
     requires { row_start net.old (suc k) ≤ length net.old }
     ensures { net.new ≡ set_row net.old k (put_regs (row_at net.old k) g) }
@@ -206,7 +209,7 @@ fn ids_differ(net: &[u8], n: usize) -> bool
     true
 }
 
-#[tactic(auto, unfolding(crate::specs::Network::holder_fits))]
+#[tactic(auto, using(crate::proofs::Rows::WithRows::row_within, crate::proofs::Online::Nodes::online_is), unfolding(crate::specs::Network::holder_fits))]
 fn holder_fits(net: &[u8]) -> bool
     requires header_bytes_in_bounds { header_bytes ≤ length net.now }
     requires net_in_bounds { row_start net.now (rows net.now) ≤ length net.now }
@@ -223,7 +226,7 @@ fn holder_fits(net: &[u8]) -> bool
 }
 
 // SHAPE does not refuse the network. Any bytes of any length may be asked about.
-#[tactic(auto, unfolding(crate::specs::Network::shape))]
+#[tactic(auto, using(crate::proofs::Rows::Headers::header_told), unfolding(crate::specs::Network::shape))]
 pub fn shape(net: &[u8]) -> bool
     ensures { result ≡ shape net.now }
 {

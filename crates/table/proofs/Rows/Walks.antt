@@ -89,6 +89,9 @@ module _ (net : List ℕ) (k a : ℕ) (e : a ≡ row_start net k) (h : row_start
   pub walked_room : a + row_size (drop a net) ≤ length net
   walked_room = rw (walk_size net k a e (row_size (drop a net)) refl) h
 
+  pub walked_row : (r : List ℕ) → r ≡ take (row_size (drop a net)) (drop a net) → r ≡ row_at net k
+  walked_row r p = walk_row net (suc k) h k a e (omega arith) r p
+
   pub walked_lies : (d : ℕ) → (d ≡ a + row_size (drop a net)) × (d ≤ length net) → Lies net k a d
   walked_lies = lies net k a e
 
