@@ -144,7 +144,7 @@ pub fn interrupt(net: &[u8], row: usize) -> Result<bool, Refusal>
 
 // The data of a page of a row: that stretch of the network itself, of length 0 where the call below refuses.
 // Kept: the bytes and the refusal are two calls: docs/STATEMENTS.md has `page_data` as one that gives bytes for any network.
-#[tactic(auto, using(told::proofs::Told::Results::refused_keeps, told::proofs::Told::Results::done_goes, crate::proofs::Access::Handed::room_behind), unfolding(crate::specs::Calls::net_data))]
+#[tactic(auto, using(told::proofs::Told::Results::refused_keeps, told::proofs::Told::Results::done_goes, crate::proofs::Access::Handed::room_behind, told::proofs::Told::Results::is_refused, crate::proofs::Access::Placed::data_placed), unfolding(crate::specs::Calls::net_data))]
 pub fn page_data(net: &[u8], row: usize, page: usize) -> &[u8]
     ensures bytes { result.now ≡ net_data net.now row page }
     ensures place { net_data_number net.now row page ≡ 0 → result.ref_ptr ≡ onward net.entry.ref_ptr (net_data_from net.now row page) }
@@ -165,7 +165,7 @@ pub fn may_read_data(net: &[u8], row: usize, page: usize) -> Result<(), Refusal>
 }
 
 // A network of n rows is made in the bytes lent, whatever they were.
-#[tactic(auto, using(told::proofs::Told::Results::handed_number, told::proofs::Told::Results::refused_keeps, told::proofs::Told::Results::done_goes, crate::proofs::Access::Handed::fresh_few, crate::proofs::Access::Handed::fresh_exact, crate::proofs::Access::Handed::fresh_least), unfolding(crate::specs::Calls::net_after_fresh))]
+#[tactic(auto, using(told::proofs::Told::Results::handed_number, told::proofs::Told::Results::refused_keeps, told::proofs::Told::Results::done_goes, crate::proofs::Access::Handed::fresh_few, crate::proofs::Access::Handed::fresh_exact, crate::proofs::Access::Handed::fresh_least, told::proofs::Told::Results::is_done, crate::proofs::Access::Fresh::fresh_done), unfolding(crate::specs::Calls::net_after_fresh))]
 pub fn fresh(net: &mut [u8], n: usize) -> Result<(), Refusal>
     ensures number { number result ≡ fresh_number net.old n }
     ensures bytes { net.new ≡ net_after_fresh net.old n }

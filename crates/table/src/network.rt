@@ -56,6 +56,7 @@ pub fn holder(net: &[u8]) -> usize
 }
 
 // Where row k starts: the rows before it are walked over.
+#[tactic(auto, using(crate::proofs::Rows::Starts::start_zero, crate::proofs::Rows::Walks::walk_room, crate::proofs::Rows::Walks::walk_next))]
 pub fn row_start(net: &[u8], k: usize) -> usize
     requires { row_start net.now (suc k) ≤ length net.now }
     ensures { result ≡ row_start net.now k }
@@ -142,6 +143,7 @@ pub fn node_of(net: &[u8], id: u8, except: usize, n: usize) -> Option<usize>
 }
 
 // The highest ID on line. Kept: the search starts at 0, which no row on line has for its ID (docs/DECISIONS.md, 27).
+#[tactic(auto, using(crate::proofs::Rows::Walk::before_first, crate::proofs::Rows::Walk::before_next, crate::proofs::Rows::Walk::before_is, crate::proofs::Online::Nodes::top_id_none, crate::proofs::Online::Nodes::top_id_step))]
 pub fn top_id(net: &[u8], n: usize) -> Option<u8>
     requires { row_start net.now n ≤ length net.now }
     ensures { result ≡ not_zero (top_id net.now n) }
@@ -156,6 +158,7 @@ pub fn top_id(net: &[u8], n: usize) -> Option<u8>
 
 // The bytes end where the first n rows end. Any bytes behind a header may be asked about, so that each row is looked for before it
 // is passed over.
+#[tactic(auto, using(crate::proofs::Rows::Starts::start_zero, crate::proofs::Rows::Walks::rest_size, crate::proofs::Rows::Walks::walk_next))]
 fn rows_end(net: &[u8], n: usize) -> bool
     requires { header_bytes ≤ length net.now }
     ensures { result ≡ rows_end net.now n }
