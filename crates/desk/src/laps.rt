@@ -4,14 +4,15 @@ ghost use Rattle.told.specs.Refusals.{number};
 ghost use Rattle.line.specs.Answers.{said};
 ghost use Rattle.table.specs.Rows.{row_start};
 ghost use Rattle.table.specs.Network.{LOST, phase, shape};
-ghost use Rattle.desk.specs.Lap.{online, nodes, invitation, passed, invitations, takers, answers, after, lap_steps, lap_number, lapping, walked_count, walked_list, walked_total, lapped, net_after_lap, list_after_lap, nobody, Walks};
+ghost use Rattle.desk.specs.Lap.{online, nodes, invitation, invitations, takers, answers, after, lap_steps, lap_number, lapping, walked_count, walked_list, walked_total, lapped, net_after_lap, list_after_lap, nobody, Walks};
 
 use line::step::{Answer, step_on};
-use table::network::{HEADER, LOST, ROWS, phase, regs_at, row_from, rows, shape};
+use table::network::{LOST, ROWS, phase, regs_at, rows, shape};
+use table::walk::Rows;
 use told::refusals::Refusal;
 
 // A row that took the token: its node ID, its number from 0, and the invitations since the holder before.
-#[derive(Clone, Copy)]
+#[derive(Clone, Copy, Debug, PartialEq, Eq)]
 pub struct Taker {
     pub id: u8,
     pub row: u8,
@@ -19,7 +20,7 @@ pub struct Taker {
 }
 
 // A lap that was run: the total, and the takers, the first n of the list; nobody has the entries past n.
-#[derive(Clone, Copy)]
+#[derive(Clone, Copy, Debug, PartialEq, Eq)]
 pub struct Walked {
     pub total: u16,
     pub n: usize,
@@ -33,33 +34,16 @@ fn invitation(answer: Answer) -> bool
     matches!(answer, Answer::Passed(_) | Answer::Unanswered(_))
 }
 
-// The answers that tell of an invitation that was taken.
-fn passed(answer: Answer) -> bool
-    ensures { result ≡ passed (said answer) }
-{
-    matches!(answer, Answer::Passed(_))
-}
-
 // The nodes on line among the first n rows.
 fn online(net: &[u8], n: usize) -> usize
     requires { row_start net.now n ≤ length net.now }
     ensures { (result ≡ online net.now n) × (result ≤ n) }
 {
-    let mut count = 0;
-    let mut a = HEADER;
-    let mut k = 0;
-    while k < n {
-        let row = row_from(net, a);
-        if card::row::load(row).on_line() {
-            count += 1;
-        }
-        a += row.len();
-        k += 1;
-    }
-    count
+    Rows::first(net, n).filter(|row| card::row::load(row).on_line()).count()
 }
 
 // SHAPE, BUSY, ALONE and ROOM, in a list of `room` entries.
+#[tactic(auto, using(table::proofs::Access::Handed::least_behind, crate::proofs::Lapping::LapNumber::all_behind, told::proofs::Told::Results::handed_number, told::proofs::Told::Results::stands), unfolding(crate::specs::Lap::lap_number, crate::specs::Lap::lap_refusals))]
 fn may_lap(net: &[u8], room: usize) -> Result<(), Refusal>
     ensures { number result ≡ lap_number net.now room }
 {
@@ -99,15 +83,12 @@ fn run(net: &mut [u8]) -> Walked
         list: nobody(),
     };
     let mut since = 0;
-    let mut back = false;
-    while !back {
+    loop {
         let answer = step_on(net, 0);
-        if invitation(answer) {
-            since += 1;
-            walk.total += 1;
-        }
-        if passed(answer) {
-            let row = answer.value();
+        let sent = u16::from(invitation(answer));
+        since += sent;
+        walk.total += sent;
+        if let Answer::Passed(row) = answer {
             walk.list[walk.n] = Taker {
                 id: regs_at(net, row).id,
                 row: row as u8,
@@ -115,13 +96,15 @@ fn run(net: &mut [u8]) -> Walked
             };
             walk.n += 1;
             since = 0;
-            back = row == first;
+            if row == first {
+                return walk;
+            }
         }
     }
-    walk
 }
 
 // The lap, for a list of `room` entries.
+#[tactic(auto, using(crate::proofs::Lapping::LapDone::refused, crate::proofs::Lapping::LapDone::shape_behind, crate::proofs::Lapping::LapDone::lost_behind, crate::proofs::Lapping::LapDone::two_behind, crate::proofs::Lapping::LapDone::run, crate::proofs::Lapping::LapDone::total))]
 pub fn walk(net: &mut [u8], room: usize) -> Result<Walked, Refusal>
     ensures walks { Walks net.old room (walked_count result) (walked_list result) (lapping (walked_total result)) net.new }
     ensures total { IfOk result (λ w. w.total ≡ 256 + nodes net.old) }

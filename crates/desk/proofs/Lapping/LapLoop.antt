@@ -1,15 +1,19 @@
 -- The loop of the lap call, in the words of its code: how it starts, a turn of it, and what is left when it ends.
 -- Assumes nothing.
 use mathlib.Core.Path.{◌≡◌, refl, sym, ap, ◌∙◌}
-use mathlib.Core.Bool.{Bool, true, false, not, true≢false}
+use mathlib.Core.Bool.{Bool, true, false, true≢false}
 use mathlib.Core.List.{List}
-use Prim.Native.Nat.{ℕ, suc, ◌+◌, ◌*◌, ◌-◌, ◌<◌, ◌≤◌}
+use Prim.Native.Nat.{ℕ, suc, ◌+◌, ◌*◌, ◌-◌, ◌^◌, ◌<◌, ◌≤◌}
 use native.Mathlib.Omega.{arith}
 use lib.Dec.{eqb}
+use borrow.Author.Tests.{eq-eqb, ne_eqb}
 use lib.ListN.{length, take, drop, set}
 use Rattle.registers.specs.declared.regs.Regs.{Regs}
 use Rattle.bits.specs.Words.{pick}
-use Rattle.line.specs.Answers.{Answer}
+use Rattle.std.specs.Int.{from_bool}
+use Rattle.line.specs.declared.step.Answer as code
+use Rattle.line.specs.declared.step.Answer.TheVariants as by
+use Rattle.line.specs.Answers.{Answer, said}
 use Rattle.table.specs.Rows.{row_start}
 use Rattle.table.specs.Network.{rows, phase, LOST, regs_at, shape, row_limit}
 use Rattle.line.specs.Step.{step_turn, step, answer_value}
@@ -53,9 +57,8 @@ module _ (net : List ℕ) (s : shape net ≡ true) (b : Rams net) (lost : phase 
     pub bytes : now ≡ after (lap_steps net) net
     pub rest : drop n list ≡ drop n nobody
 
-  pub ends : (now : List ℕ) (list : List Taker) (n recent total : ℕ) (home : Bool) → Going new first now list n recent total home → not home ≡ false
-      → Ended now list n total
-  ends now list n recent total true v t =
+  pub ends : (now : List ℕ) (list : List Taker) (n recent total : ℕ) → Going new first now list n recent total true → Ended now list n total
+  ends now list n recent total v =
       let r : new ≡ (step net 0).after = came net s a new e in
       let k : v.k ≡ 255 + 2 * nodes (step net 0).after = v.back_home refl ∙ ap (λ (x : List ℕ). 255 + 2 * nodes x) r in
       record {
@@ -65,75 +68,94 @@ module _ (net : List ℕ) (s : shape net ≡ true) (b : Rams net) (lost : phase 
         bytes = rw (k, r) at v.now_is ∙ sym (lap_after net s b lost two);
         rest = v.unused;
       }
-  ends now list n recent total false v t = absurd (true≢false t)
 
--- ---- a turn of the loop, while the token is away
-abbrev pub steps_left : List ℕ → ℕ → List ℕ → Bool → ℕ
-steps_left net first now home = pick home 0 (suc (left first (nodes net) now))
+one_most : (b : Bool) → from_bool b ≤ 1
+one_most true = omega arith
+one_most false = omega arith
 
--- the variables after it, and that fewer steps are left
-pub record Turned (net : List ℕ) (first : ℕ) (now : List ℕ) (was : Bool) (new : List ℕ) (list : List Taker) (n recent total : ℕ) (home : Bool) : Type 0 where
-  pub going : Going net first new list n recent total home
-  pub less : steps_left net first new home < steps_left net first now was
+counts : (x : ℕ) (b : Bool) (sent : ℕ) → sent ≡ from_bool b → x + sent ≡ pick b (x + 1) x
+counts x true sent e = rw e
+counts x false sent e = omega (arith, e)
 
-module _ (net : List ℕ) (first : ℕ) (now : List ℕ) (list : List Taker) (n recent total : ℕ) where
-  turned : (v : Going net first now list n recent total false) (new : List ℕ) (list' : List Taker) (n' recent' total' : ℕ) (home : Bool)
-      → (w : Going net first new list' n' recent' total' home) → w.k ≡ suc v.k → Turned net first now false new list' n' recent' total' home
-  turned v new list' n' recent' total' true w e = record { going = w; less = omega arith }
-  turned v new list' n' recent' total' false w e =
+-- ---- the answer as the code matches it: of a row that took the token, and any other
+pub matched : (a : code.Answer) (row : ℕ) → a ≡ by.Passed row → (passed (said a) ≡ true) × (row ≡ answer_value (said a))
+matched a row e = rw e (refl, refl)
+
+pub unmatched : (a : code.Answer) → ((row : ℕ) → a ≡ by.Passed row → ⊥) → passed (said a) ≡ false
+unmatched by.Quiet u = refl
+unmatched (by.Recovered r) u = refl
+unmatched (by.Passed r) u = absurd (u r refl)
+unmatched (by.Unanswered i) u = refl
+unmatched by.TokenLost u = refl
+unmatched (by.Held o) u = refl
+
+-- ---- a turn of the loop, while the token is away: the variables after it, and that fewer steps are left
+pub record Turned (net : List ℕ) (first : ℕ) (now new : List ℕ) (list : List Taker) (n recent total : ℕ) : Type 0 where
+  pub going : Going net first new list n recent total false
+  pub less : left first (nodes net) new < left first (nodes net) now
+
+module _ (net : List ℕ) (first : ℕ) (now : List ℕ) (list : List Taker) (n recent total : ℕ) (v : Going net first now list n recent total false) where
+  turned : (new : List ℕ) (list' : List Taker) (n' recent' total' : ℕ) (home : Bool) → home ≡ false → (w : Going net first new list' n' recent' total' home)
+      → w.k ≡ suc v.k → Turned net first now new list' n' recent' total'
+  turned new list' n' recent' total' true h w e = absurd (true≢false h)
+  turned new list' n' recent' total' false h w e =
       let a : left first (nodes net) new ≡ 254 + 2 * nodes net - w.k = rw w.now_is (left_is net first w.course w.k (w.away refl)) in
       let b : left first (nodes net) now ≡ 254 + 2 * nodes net - v.k = rw v.now_is (left_is net first v.course v.k (v.away refl)) in
       record { going = w; less = omega (arith, a, b, e, w.away refl, v.away refl) }
 
-  pub going_shape : (home : Bool) → Going net first now list n recent total home → shape now ≡ true
-  going_shape home v = rw v.now_is (alikes net v.course.fits v.course.rams v.k).fits
+  pub going_shape : shape now ≡ true
+  going_shape = rw v.now_is (alikes net v.course.fits v.course.rams v.k).fits
 
-  -- the counts fit, and there is room for an entry more
-  pub going_small : (home : Bool) → Going net first now list n recent total home → not home ≡ true
-      → (n < row_limit) × (recent ≤ 256 + 2 * row_limit) × (total ≤ 256 + 2 * row_limit)
-  going_small true v t = absurd (true≢false (sym t))
-  going_small false v t = let q = small net first now list n recent total v _ refl _ refl in (space net first now list n recent total v _ refl _ refl, q.0, q.1)
+  pub going_room : n < row_limit
+  going_room = space net first now list n recent total v _ refl _ refl
 
   -- an invitation is counted
-  abbrev pub Counted : Bool → ℕ → ℕ → Type 0
-  Counted i recent' total' = (recent' ≡ pick i (recent + 1) recent) × (total' ≡ pick i (total + 1) total)
+  module _ (a : Answer) (new : List ℕ) (e : Stepped now a new) (sent : ℕ) (q : sent ≡ from_bool (invitation a)) where
+    -- the counts fit
+    pub turn_small : (recent + sent < 2 ^ 16) × (total + sent < 2 ^ 16)
+    turn_small =
+        let k = small net first now list n recent total v _ refl _ refl in
+        let o = one_most (invitation a) in (omega (arith, q, k.0, o), omega (arith, q, k.1, o))
 
-  module _ (a : Answer) (new : List ℕ) (e : Stepped now a new) (p : Bool) (ep : p ≡ passed a) (i : Bool) (ei : i ≡ invitation a)
-      (recent' total' : ℕ) (q : Counted i recent' total') where
-    pub turn_other : (home : Bool) → Going net first now list n recent total home → not home ≡ true → p ≡ false
-        → Turned net first now home new list n recent' total' home
-    turn_other true v t f = absurd (true≢false (sym t))
-    turn_other false v t f =
-        let s = going_shape false v in
-        let w = step_other net first now list n recent total v a (told now s a new e) new (came now s a new e) (sym ep ∙ f) in
-        rw (q.0, q.1, ei) (turned v new list n _ _ false w (other_next net first now list n recent total v a (told now s a new e) new (came now s a new e) (sym ep ∙ f)))
+    told_now : a ≡ (step now 0).answer
+    told_now = told now going_shape a new e
+
+    came_now : new ≡ (step now 0).after
+    came_now = came now going_shape a new e
+
+    pub turn_other : passed a ≡ false → Turned net first now new list n (recent + sent) (total + sent)
+    turn_other f =
+        rw (counts recent (invitation a) sent q, counts total (invitation a) sent q)
+        (turned new list n _ _ false refl (step_other net first now list n recent total v a told_now new came_now f) (other_next net first now list n recent total v a told_now new came_now f))
 
     -- a row took the token
-    module _ (row : ℕ) (ew : row ≡ answer_value a) where
-      turn_below : (home : Bool) → Going net first now list n recent total home → not home ≡ true → p ≡ true → row < rows new
-      turn_below true v t f = absurd (true≢false (sym t))
-      turn_below false v t f =
-          let s = going_shape false v in
-          let l = below net first now list n recent total v a (told now s a new e) new (came now s a new e) (sym ep ∙ f) row ew (regs_at new row) refl in
-          let z : new ≡ after (suc v.k) net = came now s a new e ∙ ap (λ (x : List ℕ). (step x 0).after) v.now_is ∙ sym (after_more v.k net) in
+    module _ (p : passed a ≡ true) (row : ℕ) (ew : row ≡ answer_value a) where
+      turn_below : row < rows new
+      turn_below =
+          let l = below net first now list n recent total v a told_now new came_now p row ew (regs_at new row) refl in
+          let z : new ≡ after (suc v.k) net = came_now ∙ ap (λ (x : List ℕ). (step x 0).after) v.now_is ∙ sym (after_more v.k net) in
           rw z (omega (arith, l, (alikes net v.course.fits v.course.rams (suc v.k)).count))
 
       -- its part lies in the network, and its number is a byte
-      pub turn_part : (home : Bool) → Going net first now list n recent total home → not home ≡ true → p ≡ true
-          → (row_start new (suc row) ≤ length new) × (row < 256)
-      turn_part home v t f =
-          let s = going_shape home v in
-          let z = any_step now s (rw v.now_is (alikes net v.course.fits v.course.rams v.k).rams) in
-          let w : shape new ≡ true = rw (came now s a new e) z.fits in
-          let l = turn_below home v t f in
-          (shape_within new w row l, omega (arith, l, (shape_rows new w).1))
+      pub turn_part : (row_start new (suc row) ≤ length new) × (row < 256)
+      turn_part =
+          let z = any_step now going_shape (rw v.now_is (alikes net v.course.fits v.course.rams v.k).rams) in
+          let w : shape new ≡ true = rw came_now z.fits in
+          (shape_within new w row turn_below, omega (arith, turn_below, (shape_rows new w).1))
 
-      pub turn_passed : (home : Bool) → Going net first now list n recent total home → not home ≡ true → p ≡ true → (g : Regs) → g ≡ regs_at new row
-          → Turned net first now home new (set list n (record { id = g.id; row = row; invitations = recent' })) (n + 1) 0 total' (eqb row first)
-      turn_passed true v t f g eg = absurd (true≢false (sym t))
-      turn_passed false v t f g eg =
-          let s = going_shape false v in
-          let p' = sym ep ∙ f in
-          let w = step_passed net first now list n recent total v a (told now s a new e) new (came now s a new e) p' row ew g eg in
-          rw (q.0, q.1, ei, passed_invites a p')
-          (turned v new _ _ _ _ _ w (passed_next net first now list n recent total v a (told now s a new e) new (came now s a new e) p' row ew g eg))
+      module _ (g : Regs) (eg : g ≡ regs_at new row) where
+        abbrev entered : List Taker
+        entered = set list n (record { id = g.id; row = row; invitations = recent + sent })
+
+        one : sent ≡ 1
+        one = q ∙ ap from_bool (passed_invites a p)
+
+        -- the first holder has it again, or it goes on
+        pub turn_home : row ≡ first → Going net first new entered (n + 1) 0 (total + sent) true
+        turn_home h = rw one (rw (eq-eqb row first h) at (step_passed net first now list n recent total v a told_now new came_now p row ew g eg))
+
+        pub turn_away : (row ≡ first → ⊥) → Turned net first now new entered (n + 1) 0 (total + sent)
+        turn_away u =
+            rw one
+            (turned new _ _ _ _ (eqb row first) (ne_eqb row first u) (step_passed net first now list n recent total v a told_now new came_now p row ew g eg)
+            (passed_next net first now list n recent total v a told_now new came_now p row ew g eg))

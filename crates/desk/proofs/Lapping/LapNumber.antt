@@ -6,26 +6,26 @@ use mathlib.Core.List.{List}
 use Prim.Native.Nat.{ℕ, ◌≤◌}
 use native.Mathlib.Omega.{arith}
 use lib.Dec.{eqb, ltb}
+use lib.ListN.{length}
 use borrow.Author.Tests.{not-false, eqb-true, ltb-false}
+use Rattle.std.proofs.Common.{Result, Ok, Err}
+use Rattle.told.specs.declared.refusals.Refusal.{Refusal}
+use Rattle.told.specs.declared.refusals.Refusal.TheVariants.{Shape}
+use Rattle.told.specs.Refusals.{number}
+use Rattle.told.proofs.Told.Results.{passed_not}
+use Rattle.table.specs.Rows.{row_start}
+use Rattle.table.proofs.Shaped.Shapes.{shape_room}
 use Rattle.told.specs.Numbers.{DONE, SHAPE, BUSY, ALONE, ROOM, Smallest, refuse, refuses}
 use Rattle.told.proofs.Told.Smallest.{smallest, refuse_held, refuse_passed, refuse_stays, none_refuses}
 use Rattle.table.specs.Network.{rows, phase, LOST, shape}
 use Rattle.desk.specs.Lap.{online, nodes, lap_refusals, lap_number, lapped}
 
+-- behind SHAPE all rows lie in the bytes
+pub all_behind : {A : Type 0} (r : Result A Refusal) (v : A) → r ≡ Ok v → (net : List ℕ) (s : Bool) → number r ≡ refuse DONE SHAPE (not s) → s ≡ shape net
+    → (n : ℕ) → n ≡ rows net → row_start net n ≤ length net
+all_behind r v w net s h e n q = rw q (shape_room net (sym e ∙ not-false s (passed_not r v Shape (not s) w h)))
+
 module _ (net : List ℕ) (room : ℕ) where
-  module _ (b : Bool) (eb : b ≡ shape net) where
-    pub no_shape : not b ≡ true → SHAPE ≡ lap_number net room
-    unfolding lap_number lap_refusals
-    no_shape f =
-        let n : SHAPE ≡ DONE → ⊥ = λ z. omega arith in
-        rw (refuse_held SHAPE (not (shape net)) (ap not (sym eb) ∙ f), refuse_stays SHAPE BUSY (not (eqb (phase net) LOST)) n, refuse_stays SHAPE ALONE (ltb (nodes net) 2) n, refuse_stays SHAPE ROOM (ltb room (nodes net)) n)
-
-    pub asked : not b ≡ false → (n : ℕ) → n ≡ rows net → (m : ℕ) → m ≡ online net n → (p : ℕ) → p ≡ phase net
-        → (x : ℕ) → x ≡ refuse DONE BUSY (not (eqb p LOST)) → (y : ℕ) → y ≡ refuse x ALONE (ltb m 2) → (k : ℕ) → k ≡ refuse y ROOM (ltb room m)
-        → k ≡ lap_number net room
-    unfolding lap_number lap_refusals
-    asked f n en m em p ep x ex y ey k e = rw (refuse_passed DONE SHAPE (not (shape net)) (ap not (sym eb) ∙ f)) (e ∙ rw (ey, ex, ep, em, en))
-
   pub lap_smallest : Smallest (lap_refusals net room) (lapped net room).number
   unfolding lap_refusals lap_number lapped
   lap_smallest = smallest (lap_refusals net room) refl

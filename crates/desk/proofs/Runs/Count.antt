@@ -12,9 +12,14 @@ use lib.Dec.{eqb}
 use borrow.Author.Tests.{eqb-true, eqb-false}
 use Rattle.bits.specs.Words.{pick}
 use Rattle.bits.proofs.Words.Bools.{cases, or_false, or_true, pick_of}
+use Rattle.std.specs.List.{filter}
+use Rattle.registers.specs.Fit.{on_line}
+use Rattle.card.specs.Row.{regs_of}
 use Rattle.table.specs.Folds.{some}
+use Rattle.table.specs.Rows.{row_at}
 use Rattle.table.specs.Network.{regs_at, on_line_at, is_node}
 use Rattle.table.proofs.Folds.{clash, some_none, some_more, some_not}
+use Rattle.table.proofs.Rows.Walk.{rows_from}
 use Rattle.table.proofs.Online.Nodes.{node_of_lem, node_online, node_id}
 use Rattle.desk.specs.Lap.{online}
 use Rattle.desk.proofs.ById.Ring.{calls, roster}
@@ -88,13 +93,21 @@ roster_online net (suc k) i =
     (λ o. ap (λ (f : ℕ → Bool). length (calls f 0 256)) (off_same net k o) ∙ ih)
 
 -- ---- the count
-pub online_none : (net : List ℕ) → online net 0 ≡ 0
-unfolding online
-online_none net = refl
+abbrev on_row : List ℕ → Bool
+on_row r = on_line (regs_of r)
 
-pub online_more : (net : List ℕ) (k : ℕ) → online net (k + 1) ≡ pick (on_line_at net k) (online net k + 1) (online net k)
+-- as the code counts: of m rows from row k on
+on_rows : (net : List ℕ) (m k : ℕ) → online net (k + m) ≡ online net k + length (filter on_row (rows_from net k m))
+unfolding online on_line_at
+on_rows net zero k = let z : k + 0 ≡ k = omega arith in rw z (omega arith)
+on_rows net (suc m) k =
+    let ih = on_rows net m (suc k) in
+    let e : k + suc m ≡ suc k + m = omega arith in
+    rw e (ih ∙ ⊎_elim (λ (t : on_row (row_at net k) ≡ true). rw t (omega arith)) (λ (f : on_row (row_at net k) ≡ false). rw f) (cases (on_row (row_at net k))))
+
+pub rows_online : (net : List ℕ) (n : ℕ) → length (filter on_row (rows_from net 0 n)) ≡ online net n
 unfolding online
-online_more net k = rw (add-one k, add-one (online net k))
+rows_online net n = let e : 0 + n ≡ n = omega arith in sym (rw e at (on_rows net n 0) ∙ omega arith)
 
 pub online_most : (net : List ℕ) (n : ℕ) → online net n ≤ n
 unfolding online

@@ -1,88 +1,80 @@
-use Rattle.std.proofs.Common.{not, refl, ap, ℕ, arith, rules}
+use Rattle.std.proofs.Common.{ap, ◌∙◌, arith, rules}
+use Rattle.std.specs.Int.{from_bool}
 use Rattle.table.proofs.Shaped.Alike.{bytes_rams}
 use Rattle.table.specs.Network.{Bytes}
-use Rattle.desk.proofs.Lapping.LapLoop.{Stepped, starts, ends, going_shape, going_small, turn_other, turn_part, turn_passed}
+use Rattle.desk.proofs.Lapping.LapLoop.{starts, ends, matched, unmatched, going_shape, going_room, turn_small, turn_other, turn_part, turn_home, turn_away}
 use Rattle.desk.proofs.laps.run.Goals as goal
-use Rattle.desk.proofs.laps.run.Goals.{then-invitation, else-invitation}
 
-pub loop-back-init : goal.loop-back-init
-loop-back-init c =
+pub loop-row-init : goal.loop-row-init
+loop-row-init c =
     let s = c.requires.shaped in
-    let e : Stepped c.args.net.now c.step_on.result c.step_on.new.net = (c.step_on.ensures.answer, c.step_on.ensures.bytes) in
     let bytes : Bytes c.args.net.now = search rules in
-    starts _ s (bytes_rams _ s bytes) c.requires.lost c.requires.two _ _ e _ c.value-first.ensures _ c.nobody-list.ensures
+    starts _ s (bytes_rams _ s bytes) c.requires.lost c.requires.two _ _ (c.step_on.ensures.answer, c.step_on.ensures.bytes) _ c.value-first.ensures
+    _ c.nobody.ensures
 
 pub step_on-answer-requires : goal.step_on-answer-requires
-step_on-answer-requires c = going_shape _ _ _ _ _ _ _ _ c.loop-back.invariant
+step_on-answer-requires c = going_shape _ _ _ _ _ _ _ c.loop-row.invariant
 
 pub overflow_add-since : goal.overflow_add-since
-overflow_add-since c = omega (arith, going_small _ _ _ _ _ _ _ _ c.loop-back.invariant (ap not c.loop-back-test.true))
+overflow_add-since c =
+    let r =
+    turn_small _ _ _ _ _ _ _ c.loop-row.invariant _ _
+    (c.step_on-answer.ensures.answer, c.step_on-answer.ensures.bytes) _ (c.from-sent.ensures ∙ ap from_bool c.invitation.ensures) in
+    omega (arith, r.0)
 
-pub overflow_add-total : goal.overflow_add-total
-overflow_add-total c = omega (arith, going_small _ _ _ _ _ _ _ _ c.loop-back.invariant (ap not c.loop-back-test.true))
+pub overflow_add-walk : goal.overflow_add-walk
+overflow_add-walk c =
+    let r =
+    turn_small _ _ _ _ _ _ _ c.loop-row.invariant _ _
+    (c.step_on-answer.ensures.answer, c.step_on-answer.ensures.bytes) _ (c.from-sent.ensures ∙ ap from_bool c.invitation.ensures) in
+    omega (arith, r.1)
 
 pub regs_at-requires : goal.regs_at-requires
 regs_at-requires c =
-    (turn_part _ _ _ _ _ _ _ _ _ (c.step_on-answer.ensures.answer, c.step_on-answer.ensures.bytes) _ c.passed.ensures _ c.invitation.ensures _ _ (refl, refl) _ c.value-row.ensures
-    _ c.loop-back.invariant (ap not c.loop-back-test.true) c.if-passed.true).0
+    let m = matched _ _ c.in-Passed.is in
+    (turn_part _ _ _ _ _ _ _ c.loop-row.invariant _ _
+    (c.step_on-answer.ensures.answer, c.step_on-answer.ensures.bytes) _ (c.from-sent.ensures ∙ ap from_bool c.invitation.ensures) m.0 _ m.1).0
 
-pub overflow_cast-list : goal.overflow_cast-list
-overflow_cast-list c =
+pub overflow_cast-walk : goal.overflow_cast-walk
+overflow_cast-walk c =
+    let m = matched _ _ c.in-Passed.is in
     let r =
-    (turn_part _ _ _ _ _ _ _ _ _ (c.step_on-answer.ensures.answer, c.step_on-answer.ensures.bytes) _ c.passed.ensures _ c.invitation.ensures _ _ (refl, refl) _ c.value-row.ensures
-    _ c.loop-back.invariant (ap not c.loop-back-test.true) c.if-passed.true) in
+    turn_part _ _ _ _ _ _ _ c.loop-row.invariant _ _
+    (c.step_on-answer.ensures.answer, c.step_on-answer.ensures.bytes) _ (c.from-sent.ensures ∙ ap from_bool c.invitation.ensures) m.0 _ m.1 in
     omega (arith, r.1)
 
-pub bounds-list-n : goal.bounds-list-n
-bounds-list-n c = (going_small _ _ _ _ _ _ _ _ c.loop-back.invariant (ap not c.loop-back-test.true)).0
+pub bounds-walk-walk : goal.bounds-walk-walk
+bounds-walk-walk c = going_room _ _ _ _ _ _ _ c.loop-row.invariant
 
-pub loop-back-smaller-then-passed : goal.loop-back-smaller-then-passed
-loop-back-smaller-then-passed c =
-    (turn_passed _ _ _ _ _ _ _ _ _ (c.step_on-answer.ensures.answer, c.step_on-answer.ensures.bytes) _ c.passed.ensures _ c.invitation.ensures
-    c.if-invitation.since c.if-invitation.total
-    (elim c.if-invitation.branch [
-      | then-invitation w ↦ rw w.if-invitation.true (w.since-is, w.total-is)
-      | else-invitation w ↦ rw w.if-invitation.false (w.since-is, w.total-is)
-    ]) _ c.value-row.ensures _ c.loop-back.invariant (ap not c.loop-back-test.true) c.if-passed.true _ c.regs_at.ensures).less
-
-pub loop-back-preserved-then-passed : goal.loop-back-preserved-then-passed
-loop-back-preserved-then-passed c =
-    (turn_passed _ _ _ _ _ _ _ _ _ (c.step_on-answer.ensures.answer, c.step_on-answer.ensures.bytes) _ c.passed.ensures _ c.invitation.ensures
-    c.if-invitation.since c.if-invitation.total
-    (elim c.if-invitation.branch [
-      | then-invitation w ↦ rw w.if-invitation.true (w.since-is, w.total-is)
-      | else-invitation w ↦ rw w.if-invitation.false (w.since-is, w.total-is)
-    ]) _ c.value-row.ensures _ c.loop-back.invariant (ap not c.loop-back-test.true) c.if-passed.true _ c.regs_at.ensures).going
-
-pub loop-back-smaller : goal.loop-back-smaller
-loop-back-smaller c =
-    (turn_other _ _ _ _ _ _ _ _ _ (c.step_on-answer.ensures.answer, c.step_on-answer.ensures.bytes) _ c.passed.ensures _ c.invitation.ensures
-    c.if-invitation.since c.if-invitation.total
-    (elim c.if-invitation.branch [
-      | then-invitation w ↦ rw w.if-invitation.true (w.since-is, w.total-is)
-      | else-invitation w ↦ rw w.if-invitation.false (w.since-is, w.total-is)
-    ]) _ c.loop-back.invariant (ap not c.loop-back-test.true) c.if-passed.false).less
-
-pub loop-back-preserved : goal.loop-back-preserved
-loop-back-preserved c =
-    (turn_other _ _ _ _ _ _ _ _ _ (c.step_on-answer.ensures.answer, c.step_on-answer.ensures.bytes) _ c.passed.ensures _ c.invitation.ensures
-    c.if-invitation.since c.if-invitation.total
-    (elim c.if-invitation.branch [
-      | then-invitation w ↦ rw w.if-invitation.true (w.since-is, w.total-is)
-      | else-invitation w ↦ rw w.if-invitation.false (w.since-is, w.total-is)
-    ]) _ c.loop-back.invariant (ap not c.loop-back-test.true) c.if-passed.false).going
-
-pub returns : goal.returns
-returns c =
+pub returns-then-row-first : goal.returns-then-row-first
+returns-then-row-first c =
+    let m = matched _ _ c.in-Passed.is in
     let s = c.requires.shaped in
-    let e : Stepped c.args.net.now c.step_on.result c.step_on.new.net = (c.step_on.ensures.answer, c.step_on.ensures.bytes) in
     let bytes : Bytes c.args.net.now = search rules in
-    let d = ends _ s (bytes_rams _ s bytes) c.requires.lost c.requires.two _ _ e _ c.value-first.ensures
-    _ _ _ _ _ _ c.loop-back.invariant (ap not c.loop-back-test.false) in
-    record {
-      answer = ap (λ (t : ℕ). record { number = 0; total = t }) d.answer;
-      count = d.count;
-      list = d.listed;
-      bytes = d.bytes;
-      rest = d.rest;
-    }
+    let d =
+    ends _ s (bytes_rams _ s bytes) c.requires.lost c.requires.two _ _ (c.step_on.ensures.answer, c.step_on.ensures.bytes) _ c.value-first.ensures _ _ _ _ _
+    (turn_home _ _ _ _ _ _ _ c.loop-row.invariant _ _
+    (c.step_on-answer.ensures.answer, c.step_on-answer.ensures.bytes) _ (c.from-sent.ensures ∙ ap from_bool c.invitation.ensures) m.0 _ m.1 _ c.regs_at.ensures c.if-row-first.true) in
+    record { total = d.answer; count = d.count; list = d.listed; bytes = d.bytes; rest = d.rest }
+
+pub loop-row-smaller-else-row-first : goal.loop-row-smaller-else-row-first
+loop-row-smaller-else-row-first c =
+    let m = matched _ _ c.in-Passed.is in
+    (turn_away _ _ _ _ _ _ _ c.loop-row.invariant _ _
+    (c.step_on-answer.ensures.answer, c.step_on-answer.ensures.bytes) _ (c.from-sent.ensures ∙ ap from_bool c.invitation.ensures) m.0 _ m.1 _ c.regs_at.ensures c.if-row-first.false).less
+
+pub loop-row-preserved-else-row-first : goal.loop-row-preserved-else-row-first
+loop-row-preserved-else-row-first c =
+    let m = matched _ _ c.in-Passed.is in
+    (turn_away _ _ _ _ _ _ _ c.loop-row.invariant _ _
+    (c.step_on-answer.ensures.answer, c.step_on-answer.ensures.bytes) _ (c.from-sent.ensures ∙ ap from_bool c.invitation.ensures) m.0 _ m.1 _ c.regs_at.ensures c.if-row-first.false).going
+
+pub loop-row-smaller : goal.loop-row-smaller
+loop-row-smaller c =
+    (turn_other _ _ _ _ _ _ _ c.loop-row.invariant _ _
+    (c.step_on-answer.ensures.answer, c.step_on-answer.ensures.bytes) _ (c.from-sent.ensures ∙ ap from_bool c.invitation.ensures) (unmatched _ c.in_default.not-Passed)).less
+
+pub loop-row-preserved : goal.loop-row-preserved
+loop-row-preserved c =
+    (turn_other _ _ _ _ _ _ _ c.loop-row.invariant _ _
+    (c.step_on-answer.ensures.answer, c.step_on-answer.ensures.bytes) _ (c.from-sent.ensures ∙ ap from_bool c.invitation.ensures) (unmatched _ c.in_default.not-Passed)).going
