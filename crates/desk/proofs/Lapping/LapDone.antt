@@ -6,7 +6,7 @@ use Prim.Native.Nat.{ℕ, ◌+◌, ◌≤◌}
 use native.Mathlib.Omega.{arith}
 use lib.ListN.{take, drop}
 use borrow.Author.Tests.{eq-eqb, ne_eqb, eqb-false}
-use Rattle.std.proofs.Common.{Result, Ok, Err}
+use Rattle.std.proofs.Common.{true, Result, Ok, Err}
 use Rattle.std.specs.Result.{IsErrAnd}
 use Rattle.told.specs.declared.refusals.Refusal.{Refusal}
 use Rattle.told.specs.Numbers.{DONE}

@@ -1,20 +1,15 @@
-use Rattle.std.proofs.Common.{◌≡◌, ℕ, ◌≤◌, List, ◌++◌, length, take, drop, sym, ap, ◌∙◌, arith}
-use Rattle.std.proofs.lemmas.List.{length-take-le}
+use Rattle.std.proofs.Common.{◌≡◌, length, arith}
 use Rattle.table.specs.Network.{row_limit}
-use Rattle.desk.specs.Lap.{lap_takers, list_after_lap}
-use Rattle.desk.specs.declared.laps.Taker.{Taker}
+use Rattle.desk.proofs.Lapping.LapLeaves.{leaves_refused, stored}
 use Rattle.desk.proofs.laps.lap.Goals as goal
 
--- the list at exit, from what `walk` and `fill` say
-stored : (net : List ℕ) (list ts ws : List Taker) (n : ℕ) → length list ≡ row_limit → n ≤ row_limit → take n list ≡ lap_takers net (length ts)
-    → ws ≡ take n list ++ drop n ts → ws ≡ list_after_lap net ts
-unfolding list_after_lap
-stored net list ts ws n l few e e' =
-    let es : List Taker = lap_takers net (length ts) in
-    e' ∙ ap (λ (k : List Taker). k ++ drop n ts) e ∙ ap (λ (k : ℕ). es ++ drop k ts) (sym (length-take-le n list (omega arith)) ∙ ap length e)
+pub returns-in_err-walk-clause-value : goal.returns-in_err-walk-clause-value
+returns-in_err-walk-clause-value c =
+    let w = c.in_err-walk.ensures.walks in
+    leaves_refused _ _ _ _ _ c.from_residual.ensures.1 w.4 w.5
 
 pub returns-clause-value : goal.returns-clause-value
 returns-clause-value c =
-    let w = c.walk-w.ensures.walks in
-    let sized : length c.walk-w.result.list ≡ row_limit = omega arith in
-    (w.4, w.5, stored _ _ _ _ _ sized w.0 w.2 c.fill.ensures)
+    let w = c.in_ok-walk.ensures.walks in
+    let sized : length c.in_ok-walk.walk.list ≡ row_limit = omega arith in
+    (w.4, w.5, stored _ c.in_ok-walk.walk.list _ _ _ sized w.0 w.2 c.copy_from_slice.ensures.after)
