@@ -39,7 +39,9 @@ fn online(net: &[u8], n: usize) -> usize
     requires { row_start net.now n ≤ length net.now }
     ensures { (result ≡ online net.now n) × (result ≤ n) }
 {
-    Rows::first(net, n).filter(|row| card::row::load(row).on_line()).count()
+    Rows::first(net, n)
+        .filter(|row| card::row::load(row).on_line())
+        .count()
 }
 
 // SHAPE, BUSY, ALONE and ROOM, in a list of `room` entries.

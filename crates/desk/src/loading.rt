@@ -1,6 +1,7 @@
 // Document 01, "Order forms and the lap": loading.
 ghost use Rattle.std.specs.Prelude.{◌≡◌, true, ◌<◌};
 ghost use Rattle.table.specs.Network.{rows, shape};
+ghost use Rattle.table.specs.Calls.{net_after_write};
 ghost use Rattle.orders.specs.Check.{verdict};
 ghost use Rattle.desk.specs.Load.{loaded_row, loading, net_after_load};
 
@@ -25,22 +26,31 @@ const LONG_PACKETS: u8 = 0x0d;
 
 const ENABLE_RECEIVE: u8 = 0x84;
 
-// A row's registers are written, in 01's order. None of the writes refuses a row that was reset.
+// A register is written. None of the writes below refuses a row that was reset (Loaded.never_refused), so the answer is not asked.
+fn set(net: &mut [u8], k: usize, register: usize, value: u8)
+    requires shaped { shape net.old ≡ true }
+    requires row { k < rows net.old }
+    ensures { net.new ≡ net_after_write net.old k register value }
+{
+    let _ = write_on(net, k, register, value);
+}
+
+// A row's registers are written, in 01's order.
 #[tactic(auto, using(table::proofs::Access::ShapeCalls::shape_write, crate::proofs::Loads::LoadSteps::rows_write), unfolding(crate::specs::Load::loaded_row))]
 fn load_row(net: &mut [u8], k: usize, id: u8, flags: u8)
     requires shaped { shape net.old ≡ true }
     requires row { k < rows net.old }
     ensures { net.new ≡ loaded_row net.old k id flags }
 {
-    let _ = write_on(net, k, CONFIGURATION, NODE_ID);
-    let _ = write_on(net, k, SEVENTH, id);
+    set(net, k, CONFIGURATION, NODE_ID);
+    set(net, k, SEVENTH, id);
     if flags & LONG != 0 {
-        let _ = write_on(net, k, COMMAND, LONG_PACKETS);
+        set(net, k, COMMAND, LONG_PACKETS);
     }
     if flags & RECEIVE != 0 {
-        let _ = write_on(net, k, COMMAND, ENABLE_RECEIVE);
+        set(net, k, COMMAND, ENABLE_RECEIVE);
     }
-    let _ = write_on(net, k, CONFIGURATION, ON_LINE);
+    set(net, k, CONFIGURATION, ON_LINE);
 }
 
 // The network is made anew from the order, a row for each record: row k carries record k's ID.
@@ -50,12 +60,7 @@ pub fn load(order: &[u8], net: &mut [u8]) -> Result<(), Bad>
 {
     check(order)?;
     let n = records(order);
-    if let Err(refusal) = fresh(net, n) {
-        return Err(Bad {
-            refusal,
-            record: None,
-        });
-    }
+    fresh(net, n)?;
     for k in 0..n {
         load_row(net, k, id_at(order, k), flags_at(order, k));
     }

@@ -1,14 +1,13 @@
 -- The refusals of the lap call, put together from what the tests give.
 -- Assumes nothing.
-use mathlib.Core.Path.{◌≡◌, refl, sym, ◌∙◌, ap}
+use mathlib.Core.Path.{◌≡◌, refl, sym, ◌∙◌}
 use mathlib.Core.Bool.{Bool, true, false, not}
 use mathlib.Core.List.{List}
 use Prim.Native.Nat.{ℕ, ◌≤◌}
-use native.Mathlib.Omega.{arith}
-use lib.Dec.{eqb, ltb}
+use lib.Dec.{eqb}
 use lib.ListN.{length}
 use borrow.Author.Tests.{not-false, eqb-true, ltb-false}
-use Rattle.std.proofs.Common.{Result, Ok, Err}
+use Rattle.std.proofs.Common.{Result, Ok}
 use Rattle.told.specs.declared.refusals.Refusal.{Refusal}
 use Rattle.told.specs.declared.refusals.Refusal.TheVariants.{Shape}
 use Rattle.told.specs.Refusals.{number}
@@ -16,9 +15,9 @@ use Rattle.told.proofs.Told.Results.{passed_not}
 use Rattle.table.specs.Rows.{row_start}
 use Rattle.table.proofs.Shaped.Shapes.{shape_room}
 use Rattle.told.specs.Numbers.{DONE, SHAPE, BUSY, ALONE, ROOM, Smallest, refuse, refuses}
-use Rattle.told.proofs.Told.Smallest.{smallest, refuse_held, refuse_passed, refuse_stays, none_refuses}
+use Rattle.told.proofs.Told.Smallest.{smallest, none_refuses}
 use Rattle.table.specs.Network.{rows, phase, LOST, shape}
-use Rattle.desk.specs.Lap.{online, nodes, lap_refusals, lap_number, lapped}
+use Rattle.desk.specs.Lap.{nodes, lap_refusals, lap_number, lapped}
 
 -- behind SHAPE all rows lie in the bytes
 pub all_behind : {A : Type 0} (r : Result A Refusal) (v : A) → r ≡ Ok v → (net : List ℕ) (s : Bool) → number r ≡ refuse DONE SHAPE (not s) → s ≡ shape net

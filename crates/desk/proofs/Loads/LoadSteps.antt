@@ -7,21 +7,31 @@ use Prim.Native.Nat.{ℕ, zero, suc, ◌+◌, ◌≤◌, ◌<◌}
 use native.Mathlib.Numerals.{add-one}
 use native.Mathlib.Omega.{arith}
 use lib.ListN.{length}
-use borrow.Author.Tests.{eq-eqb, ne_eqb}
+use borrow.Author.Tests.{eq-eqb, ne_eqb, eqb-false}
+use Rattle.std.proofs.Common.{Result, Ok, Err}
+use Rattle.std.specs.Result.{IsErrAnd}
+use Rattle.told.specs.declared.refusals.Refusal.{Refusal}
+use Rattle.told.specs.Refusals.{number_of}
+use Rattle.told.proofs.Told.Results.{not_done}
+use Rattle.orders.specs.declared.check.Bad.{Bad}
 use Rattle.bits.specs.Words.{pick, has}
 use Rattle.table.specs.Network.{rows, shape}
 use Rattle.table.specs.Calls.{net_after_write, fresh_number, net_after_fresh, fresh_net}
-use Rattle.table.proofs.Access.Fresh.{fresh_refused, fresh_room, fresh_net_lem, header_fresh}
+use Rattle.table.proofs.Access.Fresh.{fresh_room, fresh_net_lem, header_fresh}
 use Rattle.table.proofs.Access.ShapeCalls.{shape_write, shape_fresh}
 use Rattle.table.proofs.Access.Beside.{beside_count, write_beside}
 use Rattle.told.specs.Numbers.{DONE}
 use Rattle.orders.specs.Check.{Checked}
 use Rattle.orders.specs.Form.{records, record_at, id_at, flags_of, RECEIVE, LONG, order_fits}
-use Rattle.orders.specs.Check.{tells, checked}
+use Rattle.orders.specs.Check.{verdict, tells, checked}
 use Rattle.orders.proofs.Checks.Fit.{fits_told, told_fits, order_records}
 use Rattle.desk.specs.Load.{set19, set_id, set_long, set_receive, loaded_row, loaded_rows, loading, load_number, net_after_load}
 use Rattle.desk.proofs.Loads.Unfit.{load_order}
 use Rattle.desk.proofs.Loads.Loaded.{number, load_room, load_refused}
+
+fresh_kept : (net : List ℕ) (n : ℕ) → (fresh_number net n ≡ 0 → ⊥) → net_after_fresh net n ≡ net
+unfolding net_after_fresh
+fresh_kept net n u = rw (ne_eqb (fresh_number net n) 0 u)
 
 -- `new` may be written where `net` may
 pub record Writable (net new : List ℕ) : Type 0 where
@@ -82,6 +92,17 @@ module _ (order net : List ℕ) where
       let r = writable_row (loaded_rows order net k) k (h.shaped, omega (arith, h.count)) (id_at order k) (flags_of (record_at order k)) in
       record { shaped = r.shaped; count = r.count ∙ h.count; long = r.long ∙ h.long }
 
+-- ---- what `?` hands on, and that a refusal is not DONE
+pub handed : (r : Result Unit Bad) (b : Bad) → IsErrAnd r (λ y. y ≡ b) → verdict r ≡ verdict (Err b)
+handed (Ok u) b h = absurd h
+handed (Err y) b h = ap (λ (x : Bad). verdict (Err x)) h
+
+pub number_not_told : (e : Refusal) → number_of e ≡ DONE → ⊥
+number_not_told e = eqb-false (number_of e) DONE (not_done e)
+
+pub not_told : (b : Bad) → number_of b.refusal ≡ DONE → ⊥
+not_told b = number_not_told b.refusal
+
 -- ---- the call
 module _ (order net : List ℕ) (c : Checked) (e : c ≡ checked order) where
   pub is_unfit : (c.number ≡ DONE → ⊥) → (c ≡ loading order net) × (net ≡ net_after_load order net)
@@ -103,7 +124,7 @@ module _ (order net : List ℕ) (c : Checked) (e : c ≡ checked order) where
 
     pub is_refused : (m ≡ 0 → ⊥) → (tells m 0 ≡ loading order net) × (x ≡ net_after_load order net)
     unfolding net_after_load
-    is_refused u = (told_is, r ∙ sym (fresh_refused net n m p u).1 ∙ rw (← number_is, ne_eqb m 0 u))
+    is_refused u = (told_is, r ∙ fresh_kept net n (λ z. u (p ∙ z)) ∙ rw (← number_is, ne_eqb m 0 u))
 
     module _ (z : m ≡ 0) where
       made : x ≡ fresh_net n

@@ -10,7 +10,6 @@ use native.Mathlib.Omega.{arith}
 use lib.ListN.{length}
 use lib.Dec.{eqb}
 use borrow.Author.Tests.{eqb-true, eqb-false}
-use Rattle.bits.specs.Words.{pick}
 use Rattle.bits.proofs.Words.Bools.{cases, or_false, or_true, pick_of}
 use Rattle.std.specs.List.{filter}
 use Rattle.registers.specs.Fit.{on_line}
