@@ -15,7 +15,7 @@ use card::row::ROW_BYTES;
 use told::refusals::Refusal;
 
 // SHAPE and ROW: the refusals of every call to a row.
-#[tactic(auto, using(told::proofs::Told::Results::handed_number, told::proofs::Told::Results::stands, crate::proofs::Access::Handed::least_behind), unfolding(crate::specs::Calls::place_number, crate::specs::Calls::place_refusals))]
+#[tactic(auto, using(told::proofs::Told::Results::asking, crate::proofs::Access::Handed::behind), unfolding(crate::specs::Calls::place_number, crate::specs::Calls::place_refusals))]
 pub fn place(net: &[u8], row: usize) -> Result<(), Refusal>
     ensures { number result ≡ place_number net.now row }
 {
@@ -24,7 +24,7 @@ pub fn place(net: &[u8], row: usize) -> Result<(), Refusal>
 }
 
 // And what the card refuses of a read.
-#[tactic(auto, using(told::proofs::Told::Results::handed_number, told::proofs::Told::Results::first_stands, told::proofs::Told::Results::then_asked, crate::proofs::Access::Handed::room_behind), unfolding(crate::specs::Calls::net_read_number, crate::specs::Calls::place_number))]
+#[tactic(auto, using(told::proofs::Told::Results::asking, crate::proofs::Access::Handed::behind), unfolding(crate::specs::Calls::net_read_number, crate::specs::Calls::place_number))]
 fn may_read(net: &[u8], row: usize, register: usize) -> Result<(), Refusal>
     ensures { number result ≡ net_read_number net.now row register }
 {
@@ -33,7 +33,7 @@ fn may_read(net: &[u8], row: usize, register: usize) -> Result<(), Refusal>
 }
 
 // A register of a row is read.
-#[tactic(auto, using(told::proofs::Told::Results::handed_number, told::proofs::Told::Results::refused_keeps, told::proofs::Told::Results::done_goes, crate::proofs::Access::Handed::read_behind, crate::proofs::Rows::Walks::walked_room, crate::proofs::Rows::Walks::row_sized), unfolding(crate::specs::Calls::net_reading, crate::specs::Calls::net_after_read))]
+#[tactic(auto, using(told::proofs::Told::Results::leaving, crate::proofs::Access::Handed::behind, crate::proofs::Rows::Walks::lent), unfolding(crate::specs::Calls::net_reading, crate::specs::Calls::net_after_read))]
 pub fn read(net: &mut [u8], row: usize, register: usize) -> Result<u8, Refusal>
     ensures answer { reading result ≡ net_reading net.old row register }
     ensures bytes { net.new ≡ net_after_read net.old row register }
@@ -46,7 +46,7 @@ pub fn read(net: &mut [u8], row: usize, register: usize) -> Result<u8, Refusal>
 
 // Row k, as a call has left it, was on line before the call or was not: the row that comes on line bursts, and the
 // line is lost with it, or with a holder that goes off line.
-#[tactic(auto, using(crate::proofs::Rows::Starts::start_header, crate::proofs::Access::Settled::settle_stays, crate::proofs::Access::Settled::settle_bursts, crate::proofs::Access::Settled::settle_lost, crate::proofs::Access::Settled::settle_kept))]
+#[tactic(auto, using(crate::proofs::Rows::Starts::start_header, crate::proofs::Access::Settled::settles))]
 fn settle(net: &mut [u8], k: usize, was: bool)
     requires { row_start net.old (suc k) ≤ length net.old }
     ensures { net.new ≡ settled net.old k was }
@@ -66,7 +66,7 @@ fn settle(net: &mut [u8], k: usize, was: bool)
 }
 
 // A register of a row is written, in a network that SHAPE does not refuse. It serves whoever has tested SHAPE already.
-#[tactic(auto, using(crate::proofs::Shaped::Shapes::shape_least, crate::proofs::Shaped::Shapes::shape_within, crate::proofs::Shaped::Shapes::shape_room, crate::proofs::Rows::Walks::walked_room, crate::proofs::Rows::Walks::row_sized))]
+#[tactic(auto, using(crate::proofs::Shaped::Shapes::shape_least, crate::proofs::Shaped::Shapes::shape_within, crate::proofs::Shaped::Shapes::shape_room, crate::proofs::Rows::Walks::lent))]
 pub fn write_on(net: &mut [u8], row: usize, register: usize, value: u8) -> Result<(), Refusal>
     requires net_value { shape net.old ≡ true }
     requires row_bound { row < rows net.old }
@@ -87,7 +87,7 @@ pub fn write_on(net: &mut [u8], row: usize, register: usize, value: u8) -> Resul
 }
 
 // A register of a row is written.
-#[tactic(auto, using(told::proofs::Told::Results::handed_number, told::proofs::Told::Results::refused_keeps, told::proofs::Told::Results::done_goes, told::proofs::Told::Results::first_stands, crate::proofs::Access::Handed::shape_behind, crate::proofs::Access::Handed::row_behind), unfolding(crate::specs::Calls::net_write_number, crate::specs::Calls::net_after_write, crate::specs::Calls::place_number))]
+#[tactic(auto, using(told::proofs::Told::Results::leaving, told::proofs::Told::Results::first_stands, crate::proofs::Access::Handed::behind), unfolding(crate::specs::Calls::net_write_number, crate::specs::Calls::net_after_write, crate::specs::Calls::place_number))]
 pub fn write(net: &mut [u8], row: usize, register: usize, value: u8) -> Result<(), Refusal>
     ensures number { number result ≡ net_write_number net.old row register value }
     ensures bytes { net.new ≡ net_after_write net.old row register value }
@@ -97,7 +97,7 @@ pub fn write(net: &mut [u8], row: usize, register: usize, value: u8) -> Result<(
 }
 
 // A row's hardware reset.
-#[tactic(auto, using(told::proofs::Told::Results::handed_number, told::proofs::Told::Results::refused_keeps, told::proofs::Told::Results::done_goes, crate::proofs::Access::Handed::room_behind, crate::proofs::Rows::Walks::walked_room, crate::proofs::Rows::Walks::row_sized), unfolding(crate::specs::Calls::net_after_reset))]
+#[tactic(auto, using(told::proofs::Told::Results::leaving, crate::proofs::Access::Handed::behind, crate::proofs::Rows::Walks::lent), unfolding(crate::specs::Calls::net_after_reset))]
 pub fn reset(net: &mut [u8], row: usize) -> Result<(), Refusal>
     ensures number { number result ≡ place_number net.old row }
     ensures bytes { net.new ≡ net_after_reset net.old row }
@@ -112,7 +112,7 @@ pub fn reset(net: &mut [u8], row: usize) -> Result<(), Refusal>
 }
 
 // SHAPE, ROW and NOTREADY.
-#[tactic(auto, using(told::proofs::Told::Results::handed_number, told::proofs::Told::Results::first_stands, told::proofs::Told::Results::then_asked, crate::proofs::Access::Handed::room_behind), unfolding(crate::specs::Calls::timer_number, crate::specs::Calls::place_number, crate::specs::Network::on_line_at))]
+#[tactic(auto, using(told::proofs::Told::Results::asking, crate::proofs::Access::Handed::behind), unfolding(crate::specs::Calls::timer_number, crate::specs::Calls::place_number, crate::specs::Network::on_line_at))]
 fn may_expire(net: &[u8], row: usize) -> Result<(), Refusal>
     ensures { number result ≡ timer_number net.now row }
 {
@@ -121,7 +121,7 @@ fn may_expire(net: &[u8], row: usize) -> Result<(), Refusal>
 }
 
 // A row's lost-token timer expires.
-#[tactic(auto, using(told::proofs::Told::Results::handed_number, told::proofs::Told::Results::refused_keeps, told::proofs::Told::Results::done_goes, crate::proofs::Access::Handed::timer_behind, crate::proofs::Access::Handed::timer_least), unfolding(crate::specs::Calls::net_after_timer))]
+#[tactic(auto, using(told::proofs::Told::Results::leaving, crate::proofs::Access::Handed::behind), unfolding(crate::specs::Calls::net_after_timer))]
 pub fn timer(net: &mut [u8], row: usize) -> Result<(), Refusal>
     ensures number { number result ≡ timer_number net.old row }
     ensures bytes { net.new ≡ net_after_timer net.old row }
@@ -134,7 +134,7 @@ pub fn timer(net: &mut [u8], row: usize) -> Result<(), Refusal>
 }
 
 // Whether the interrupt of a row is active.
-#[tactic(auto, using(crate::proofs::Access::Handed::room_behind), unfolding(crate::specs::Calls::net_interrupt))]
+#[tactic(auto, using(crate::proofs::Access::Handed::behind), unfolding(crate::specs::Calls::net_interrupt))]
 pub fn interrupt(net: &[u8], row: usize) -> Result<bool, Refusal>
     ensures { interrupting result ≡ net_interrupt net.now row }
 {
@@ -144,7 +144,7 @@ pub fn interrupt(net: &[u8], row: usize) -> Result<bool, Refusal>
 
 // The data of a page of a row: that stretch of the network itself, of length 0 where the call below refuses.
 // Kept: the bytes and the refusal are two calls: docs/STATEMENTS.md has `page_data` as one that gives bytes for any network.
-#[tactic(auto, using(told::proofs::Told::Results::refused_keeps, told::proofs::Told::Results::done_goes, crate::proofs::Access::Handed::room_behind, told::proofs::Told::Results::is_refused, crate::proofs::Access::Placed::data_placed), unfolding(crate::specs::Calls::net_data))]
+#[tactic(auto, using(told::proofs::Told::Results::refused_keeps, told::proofs::Told::Results::done_goes, crate::proofs::Access::Handed::behind, told::proofs::Told::Results::is_refused, crate::proofs::Access::Placed::data_placed), unfolding(crate::specs::Calls::net_data))]
 pub fn page_data(net: &[u8], row: usize, page: usize) -> &[u8]
     ensures bytes { result.now ≡ net_data net.now row page }
     ensures place { net_data_number net.now row page ≡ 0 → result.ref_ptr ≡ onward net.entry.ref_ptr (net_data_from net.now row page) }
@@ -156,7 +156,7 @@ pub fn page_data(net: &[u8], row: usize, page: usize) -> &[u8]
 }
 
 // Whether the reader's data may be asked for.
-#[tactic(auto, using(told::proofs::Told::Results::handed_number, told::proofs::Told::Results::first_stands, told::proofs::Told::Results::then_asked, crate::proofs::Access::Handed::room_behind), unfolding(crate::specs::Calls::net_data_number, crate::specs::Calls::place_number))]
+#[tactic(auto, using(told::proofs::Told::Results::asking, crate::proofs::Access::Handed::behind), unfolding(crate::specs::Calls::net_data_number, crate::specs::Calls::place_number))]
 pub fn may_read_data(net: &[u8], row: usize, page: usize) -> Result<(), Refusal>
     ensures { number result ≡ net_data_number net.now row page }
 {
@@ -165,7 +165,7 @@ pub fn may_read_data(net: &[u8], row: usize, page: usize) -> Result<(), Refusal>
 }
 
 // A network of n rows is made in the bytes lent, whatever they were.
-#[tactic(auto, using(told::proofs::Told::Results::handed_number, told::proofs::Told::Results::refused_keeps, told::proofs::Told::Results::done_goes, crate::proofs::Access::Handed::fresh_few, crate::proofs::Access::Handed::fresh_exact, crate::proofs::Access::Handed::fresh_least, told::proofs::Told::Results::is_done, crate::proofs::Access::Fresh::fresh_done), unfolding(crate::specs::Calls::net_after_fresh))]
+#[tactic(auto, using(told::proofs::Told::Results::leaving, crate::proofs::Access::Handed::behind, told::proofs::Told::Results::is_done, crate::proofs::Access::Fresh::fresh_done), unfolding(crate::specs::Calls::net_after_fresh))]
 pub fn fresh(net: &mut [u8], n: usize) -> Result<(), Refusal>
     ensures number { number result ≡ fresh_number net.old n }
     ensures bytes { net.new ≡ net_after_fresh net.old n }
@@ -189,7 +189,7 @@ pub fn exact_length(n: usize) -> usize
 }
 
 // VALUE and ROOM.
-#[tactic(auto, using(told::proofs::Told::Results::handed_number, told::proofs::Told::Results::stands, crate::proofs::Access::Handed::few_behind), unfolding(crate::specs::Calls::fresh_number, crate::specs::Calls::fresh_refusals))]
+#[tactic(auto, using(told::proofs::Told::Results::asking, crate::proofs::Access::Handed::behind), unfolding(crate::specs::Calls::fresh_number, crate::specs::Calls::fresh_refusals))]
 fn may_make(net: &[u8], n: usize) -> Result<(), Refusal>
     ensures { number result ≡ fresh_number net.now n }
 {

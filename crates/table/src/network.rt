@@ -78,7 +78,7 @@ pub fn row_end(net: &[u8], a: usize) -> usize
 }
 
 // The row that starts at a. Whoever goes over all rows carries a along, and walks once.
-#[tactic(auto, using(crate::proofs::Rows::Walks::row_sized, places::proofs::Places::onward_part))]
+#[tactic(auto, using(crate::proofs::Rows::Walks::lent, places::proofs::Places::onward_part))]
 pub fn row_from(net: &[u8], a: usize) -> &[u8]
     requires { a + row_size (drop a net.now) ≤ length net.now }
     ensures bytes { result.now ≡ take (row_size (drop a net.now)) (drop a net.now) }
@@ -90,7 +90,7 @@ pub fn row_from(net: &[u8], a: usize) -> &[u8]
 }
 
 // A row's part of the network.
-#[tactic(auto, using(crate::proofs::Rows::Walks::walked_room, crate::proofs::Rows::Walks::walked_row))]
+#[tactic(auto, using(crate::proofs::Rows::Walks::lent))]
 pub fn row_at(net: &[u8], k: usize) -> &[u8]
     requires { row_start net.now (suc k) ≤ length net.now }
     ensures bytes { result.now ≡ row_at net.now k }
@@ -108,7 +108,7 @@ pub fn regs_at(net: &[u8], k: usize) -> Regs
 }
 
 // One row is given other registers.
-#[tactic(auto, using(crate::proofs::Rows::Walks::walked_room, crate::proofs::Rows::Walks::row_sized))]
+#[tactic(auto, using(crate::proofs::Rows::Walks::lent))]
 pub fn put_regs(net: &mut [u8], k: usize, g: Regs)
     requires { row_start net.old (suc k) ≤ length net.old }
     ensures { net.new ≡ set_row net.old k (put_regs (row_at net.old k) g) }
@@ -143,7 +143,7 @@ pub fn node_of(net: &[u8], id: u8, except: usize, n: usize) -> Option<usize>
 }
 
 // The highest ID on line. Kept: the search starts at 0, which no row on line has for its ID (docs/DECISIONS.md, 27).
-#[tactic(auto, using(crate::proofs::Rows::Walk::before_first, crate::proofs::Rows::Walk::before_next, crate::proofs::Rows::Walk::before_is, crate::proofs::Online::Nodes::top_id_none, crate::proofs::Online::Nodes::top_id_step))]
+#[tactic(auto, using(crate::proofs::Rows::Walk::turns, crate::proofs::Online::Nodes::top_id_none, crate::proofs::Online::Nodes::top_id_step))]
 pub fn top_id(net: &[u8], n: usize) -> Option<u8>
     requires { row_start net.now n ≤ length net.now }
     ensures { result ≡ not_zero (top_id net.now n) }

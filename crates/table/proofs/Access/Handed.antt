@@ -65,3 +65,5 @@ module _ {A : Type 0} (r : Result A Refusal) (v : A) (w : r ≡ Ok v) where
   -- the fresh call's VALUE is passed
   pub few_behind : (n : ℕ) → number r ≡ refuse DONE VALUE (eqb n 0 || ltb row_limit n) → n < 256
   few_behind n h = let l = fresh_small n (passed_not r v Value (eqb n 0 || ltb row_limit n) w h) in omega (arith, l)
+
+pub ruleset behind = (least_behind, shape_behind, row_behind, room_behind, read_behind, timer_behind, timer_least, few_behind, fresh_few, fresh_exact, fresh_least)

@@ -88,3 +88,5 @@ module _ (net : List ℕ) (k : ℕ) (p : shape net ≡ true) (q : k < rows net) 
 
   pub then_duplicate : write_number g r v ≡ 0 → (d : Bool) → d ≡ duplicate net k r v → (m : ℕ) → m ≡ refuse DONE DUPLICATE d → m ≡ net_write_number net k r v
   then_duplicate z d j m h = write_asked net k p q r v g u _ refl d j m (rw z h)
+
+pub ruleset settles = (settle_stays, settle_bursts, settle_lost, settle_kept)

@@ -86,3 +86,5 @@ module _ (net : List ℕ) (n k : ℕ) (w : Walk) where
 
         pub before_is : row.now ≡ row_at net k
         before_is = e.2 ∙ rw p.at
+
+pub ruleset turns = (before_first, before_next, before_is)

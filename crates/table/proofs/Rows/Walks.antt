@@ -98,3 +98,6 @@ module _ (net : List ℕ) (k a : ℕ) (e : a ≡ row_start net k) (h : row_start
 -- ---- a row that does not: the bytes do not end where the rows end
 pub ends_before : (net : List ℕ) (k n : ℕ) → k ≤ n → length net < row_start net k → false ≡ rows_end net n
 ends_before net k n l b = sym (ne_eqb (length net) (row_start net n) (λ e. omega (arith, start_mono net k n l)))
+
+-- ---- for the search: a row that is lent
+pub ruleset lent = (walked_room, walked_row, row_sized)
