@@ -33,7 +33,9 @@ loop-k-preserved c =
     let l = before_less _ _ _ _ p _ c.in-Some.row s.0 in
     let q = before_next _ _ _ _ p _ c.in-Some.row s.0 _ s.2 in
     let e = c.load-g.ensures ∙ ap regs_of (before_is _ _ _ _ p _ c.in-Some.row s.0) in (
-      (tt, tt, inl (before_fits _ _ _ _ q c.ranges.n.fits)), tt, q,
+      (tt, tt, inl (before_fits _ _ _ _ q c.ranges.n.fits)),
+      tt,
+      q,
       rw s.2 (passed_more (free _) _ _ l c.loop-k.invariant.3 (elim c.else-on_line.branch [
         | else-on_line-via-then-on_line+else-is_some w ↦ free_is _ _ _ _ e c.on_line.ensures w.if-on_line.true _ (rw s.1 at w.node_of.ensures) (sym w.is_some.ensures ∙ w.if-is_some.false)
         | else-on_line-via-else-on_line w ↦ free_off _ _ _ _ e c.on_line.ensures w.if-on_line.false

@@ -33,9 +33,11 @@ loop-k-preserved c =
     let p = c.loop-k.invariant.2 in
     let s = c.in-Some.ensures.steps in
     let q = before_next _ _ _ _ p _ c.in-Some.row s.0 _ s.2 in (
-      (tt, tt, inl (before_fits _ _ _ _ q c.ranges.n.fits)), tt, q,
+      (tt, tt, inl (before_fits _ _ _ _ q c.ranges.n.fits)),
+      tt,
+      q,
       rw s.2 (seek_more _ _ c.loop-k.invariant.3
-      (asked _ c.args.id c.args.except _ _ (before_is _ _ _ _ p _ c.in-Some.row s.0) _ c.load-g.ensures _ c.on_line.ensures ∙ rw s.1 at c.if-on_line-g.false)),
+          (asked _ c.args.id c.args.except _ _ (before_is _ _ _ _ p _ c.in-Some.row s.0) _ c.load-g.ensures _ c.on_line.ensures ∙ rw s.1 at c.if-on_line-g.false)),
     )
 
 pub returns : goal.returns
