@@ -29,7 +29,7 @@ module _ (f m x : ℕ) where
   raise_sets h = ne_eqb _ 0 (λ e.
       let y = bit_or x m in
       let z : bit_and m f ≡ 0 =
-          ap (λ (a : ℕ). bit_and a f) (sym (and_or_self m x)) ∙ and_assoc f y m ∙ ap (bit_and y) (and_comm m f) ∙ sym (and_assoc m y f) ∙ ap (λ (a : ℕ). bit_and a m) e in
+      ap (λ (a : ℕ). bit_and a f) (sym (and_or_self m x)) ∙ and_assoc f y m ∙ ap (bit_and y) (and_comm m f) ∙ sym (and_assoc m y f) ∙ ap (λ (a : ℕ). bit_and a m) e in
       omega arith)
 
   -- flags that are set to 1 or to 0 leave the others

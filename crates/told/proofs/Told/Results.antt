@@ -78,4 +78,5 @@ passed_not r v e true w h = absurd (eqb-false (number_of e) DONE (not_done e) (s
 
 -- what the number of a call that asks its refusals in turn is shown by; and what the bytes are that it leaves
 pub ruleset asking = (handed_number, stands, first_stands, then_asked)
+
 pub ruleset leaving = (handed_number, refused_keeps, done_goes)

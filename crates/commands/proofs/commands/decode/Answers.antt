@@ -18,5 +18,5 @@ taken (Some x) None P h f = absurd h
 pub returns : goal.returns
 unfolding command_of
 returns c =
-  let e = find_from_yields_List (λ (l : ℕ × Command). eqb l.0 c.args.byte) _ _ _ c.find.ensures.ran (YieldsList-from_slice table c.iter.ensures.rest) (λ x b q k. search (rules, tests)) in
-  taken c.find.result c.map.result _ c.map.ensures.cases (λ x k p. search rules) ∙ ap (option_map (λ (l : ℕ × Command). l.1)) e ∙ found c.args.byte (search rules)
+    let e = find_from_yields_List (λ (l : ℕ × Command). eqb l.0 c.args.byte) _ _ _ c.find.ensures.ran (YieldsList-from_slice table c.iter.ensures.rest) (λ x b q k. search (rules, tests)) in
+    taken c.find.result c.map.result _ c.map.ensures.cases (λ x k p. search rules) ∙ ap (option_map (λ (l : ℕ × Command). l.1)) e ∙ found c.args.byte (search rules)
