@@ -12,7 +12,7 @@ use Rattle.bits.proofs.Words.Bools.{cases}
 use Rattle.table.specs.Network.{rows, phase, holder, LOST, TAKEN, regs_at, is_node, top_id, shape}
 use Rattle.line.specs.Step.{step, highest, answer_value}
 use Rattle.table.proofs.Folds.{seek_is, some_not}
-use Rattle.table.proofs.Shaped.Shapes.{shape_ids}
+use Rattle.table.proofs.Shaped.Shapes.{OnLineRow as IsHeld, shape_ids}
 use Rattle.table.proofs.Online.Highest.{top_above}
 use Rattle.table.proofs.Online.Nodes.{node_online, node_id, node_of_found, online_id}
 use Rattle.line.proofs.Steps.Holders.{highest_held}
