@@ -66,22 +66,49 @@ pub(crate) struct Form {
 #[derive(Clone, Copy)]
 pub(crate) enum Call {
     Size(usize),
-    Peek { at: usize, count: usize },
+    Peek {
+        at: usize,
+        count: usize,
+    },
     Sum,
     Check,
-    Interrupt { row: usize },
-    Data { row: usize, page: usize },
+    Interrupt {
+        row: usize,
+    },
+    Data {
+        row: usize,
+        page: usize,
+    },
     Show,
     Help,
-    Poke { at: usize },
-    Fresh { rows: usize },
+    Poke {
+        at: usize,
+    },
+    Fresh {
+        rows: usize,
+    },
     Load,
-    Read { row: usize, register: usize },
-    Write { row: usize, register: usize, value: usize },
-    Reset { row: usize },
-    Timer { row: usize },
-    Step { fault: usize },
-    Lap { room: usize },
+    Read {
+        row: usize,
+        register: usize,
+    },
+    Write {
+        row: usize,
+        register: usize,
+        value: usize,
+    },
+    Reset {
+        row: usize,
+    },
+    Timer {
+        row: usize,
+    },
+    Step {
+        fault: usize,
+    },
+    Lap {
+        room: usize,
+    },
 }
 
 impl Word {
@@ -152,8 +179,15 @@ impl Word {
             Word::Poke => Call::Poke { at: a },
             Word::Fresh => Call::Fresh { rows: a },
             Word::Load => Call::Load,
-            Word::Read => Call::Read { row: a, register: b },
-            Word::Write => Call::Write { row: a, register: b, value: c },
+            Word::Read => Call::Read {
+                row: a,
+                register: b,
+            },
+            Word::Write => Call::Write {
+                row: a,
+                register: b,
+                value: c,
+            },
             Word::Reset => Call::Reset { row: a },
             Word::Timer => Call::Timer { row: a },
             Word::Step => Call::Step { fault: a },

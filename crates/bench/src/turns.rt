@@ -45,12 +45,7 @@ fn show<P: Print>(out: &mut Output<P>, net: &[u8]) -> io::Result<()> {
 }
 
 // A call is made in the lent bytes, and answered.
-fn answer<P: Print>(
-    out: &mut Output<P>,
-    net: &mut [u8],
-    line: &[u8],
-    call: Call,
-) -> io::Result<()>
+fn answer<P: Print>(out: &mut Output<P>, net: &mut [u8], line: &[u8], call: Call) -> io::Result<()>
     requires { length line.now ≤ LINE }
     ensures { net.new ≡ net_after_call call line.now net.old }
 {
@@ -67,7 +62,11 @@ fn answer<P: Print>(
         Call::Fresh { rows } => tell(out, table::calls::fresh(net, rows)),
         Call::Load => tell(out, calls::load(net, word(line, 1))),
         Call::Read { row, register } => tell(out, table::calls::read(net, row, register)),
-        Call::Write { row, register, value } => tell(out, calls::write(net, row, register, value)),
+        Call::Write {
+            row,
+            register,
+            value,
+        } => tell(out, calls::write(net, row, register, value)),
         Call::Reset { row } => tell(out, table::calls::reset(net, row)),
         Call::Timer { row } => tell(out, table::calls::timer(net, row)),
         Call::Step { fault } => tell(out, line::step::step(net, fault)),

@@ -61,14 +61,14 @@ fn answer(rt: &impl Print, err: &impl Print, order: &[u8], net: &mut [u8]) -> io
     requires row_limit_in_bounds { exact_length row_limit ≤ length net.old }
 {
     let n = records(order);
-    let size = exact_length(n);
-    if let Err(bad) = desk::loading::load(order, &mut net[..size]) {
+    let lent = &mut net[0..exact_length(n)];
+    if let Err(bad) = desk::loading::load(order, lent) {
         refuse(rt, bad.refusal, bad.record)?;
         return clerk::unfit(err, order, bad);
     }
     let mut list = nobody();
-    match desk::laps::lap(&mut net[..size], &mut list) {
-        Ok(total) => takers(rt, order, total, &list[..n]),
+    match desk::laps::lap(lent, &mut list) {
+        Ok(total) => takers(rt, order, total, &list[0..n]),
         Err(refusal) => {
             // An order that was loaded is refused for one record alone, since the list has room (`TheLoading.lap`).
             refuse(rt, refusal, None)?;

@@ -1,5 +1,5 @@
 -- The network of an order that fits the buffer fits its own.
-use Rattle.std.proofs.Common.{◌≡◌, ℕ, ◌+◌, ◌*◌, ◌≤◌, List, length, Option, Some, None, arith}
+use Rattle.std.proofs.Common.{◌≡◌, ℕ, ◌+◌, ◌*◌, ◌≤◌, List, length, Option, Some, None, ap, arith}
 use Rattle.std.specs.Prelude.{IfSome}
 use Rattle.table.specs.Network.{row_limit}
 use Rattle.table.specs.Calls.{exact_length}
@@ -23,12 +23,17 @@ from_0 : (k : Option ℕ) (n : ℕ) → record_bytes * record_from_1 k ≤ n →
 from_0 None n h = tt
 from_0 (Some k) n h = omega (arith, h)
 
-pub exact_length-size-requires : goal.exact_length-size-requires
-exact_length-size-requires g c = let f = few _ _ c.records-n.ensures c.requires.order_len_bound in omega arith
+pub exact_length-requires : goal.exact_length-requires
+exact_length-requires g c = let f = few _ _ c.records-n.ensures c.requires.order_len_bound in omega arith
 
-pub slice_bounds-load-end : goal.slice_bounds-load-end
-slice_bounds-load-end g c = room _ _ _ _ c.records-n.ensures c.requires.order_len_bound c.requires.row_limit_in_bounds c.exact_length-size.ensures
+pub slice_bounds-lent-end : goal.slice_bounds-lent-end
+slice_bounds-lent-end g c = room _ _ _ _ c.records-n.ensures c.requires.order_len_bound c.requires.row_limit_in_bounds c.exact_length.ensures
 
 -- the record that a refusal names is one of the order's
 pub unfit-requires : goal.unfit-requires
 unfit-requires g c = from_0 _ _ (load_within _ _ _ c.in-Err.ensures.told)
+
+-- a record is a row, and the list has an entry for as many rows as there may be
+pub slice_bounds-takers-end : goal.slice_bounds-takers-end
+slice_bounds-takers-end g c =
+    let f = few _ _ c.records-n.ensures c.requires.order_len_bound in omega (arith, f, c.lap.auto.takers, ap length c.nobody-list.ensures)
