@@ -6,7 +6,7 @@ use contract.Lifetimes.{Lfts, lft_at}
 use denote.RattleType.{RattleType}
 use denote.Param.Laws.{Laws, IsCopy}
 use denote.Triple.Entry.{Args}
-use Rattle.core.specs.declared.clone.Clone.{Ghosts}
+use Rattle.std.specs.declared.clone.Clone.{Ghosts}
 use Rattle.bits.specs.contracts as contracts
 use Rattle.bits.proofs.choice as choice
 use Rattle.promises.specs.Once.{Fixed}

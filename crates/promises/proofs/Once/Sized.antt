@@ -6,8 +6,8 @@ use contract.Lifetimes.{Lfts}
 use denote.Struct.Laws.{owed}
 use denote.Enum.Laws as enum
 use Rattle.std.proofs.Common.{Result, Ok, Err}
-use Rattle.core.specs.contracts.result.Result as result
-use Rattle.core.proofs.result.Result.TheLaws as result_laws
+use Rattle.std.specs.contracts.result.Result as result
+use Rattle.std.proofs.result.Result.TheLaws as result_laws
 use Rattle.told.specs.declared.refusals.Refusal.{Refusal}
 use Rattle.told.specs.contracts.refusals.Refusal as refusal
 use Rattle.told.proofs.refusals.Refusal.TheLaws as refusal_laws
