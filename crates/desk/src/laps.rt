@@ -12,7 +12,7 @@ use table::walk::Rows;
 use told::refusals::Refusal;
 
 // A row that took the token: its node ID, its number from 0, and the invitations since the holder before.
-#[derive(Clone, Copy, Debug, PartialEq, Eq)]
+#[derive(Clone, Copy, Debug, Default, PartialEq, Eq)]
 pub struct Taker {
     pub id: u8,
     pub row: u8,
@@ -20,6 +20,7 @@ pub struct Taker {
 }
 
 // A lap that was run: the total, and the takers, the first n of the list; nobody has the entries past n.
+// Kept: the count beside the list, since memory is fixed and `Walks` says of the entries past n that nobody has them.
 #[derive(Clone, Copy, Debug, PartialEq, Eq)]
 pub struct Walked {
     pub total: u16,
@@ -60,11 +61,7 @@ fn may_lap(net: &[u8], room: usize) -> Result<(), Refusal>
 pub fn nobody() -> [Taker; ROWS]
     ensures { result ≡ nobody }
 {
-    [Taker {
-        id: 0,
-        row: 0,
-        invitations: 0,
-    }; ROWS]
+    [Taker::default(); ROWS]
 }
 
 // Fault-free steps from LOST until the first holder has the token again.
