@@ -85,8 +85,7 @@ fn size_after(call: Call, size: usize) -> usize
     }
 }
 
-// A line that was taken is answered, with the first `size` bytes lent; one that did not fit the buffer is a mistake, and
-// leaves all as it was. It hands back the current length.
+// A line is answered, with the first `size` bytes lent. It hands back the current length.
 #[tactic(auto, unfolding(crate::specs::Turns::net_after_line, crate::specs::Turns::size_after_line, crate::specs::Turns::net_after))]
 pub(crate) fn turn<P: Print>(
     out: &mut Output<P>,

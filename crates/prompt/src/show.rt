@@ -1,15 +1,14 @@
 // A table of the rows, for a person. Where a write fails, its error is handed back, and the table ends there.
-ghost use Rattle.std.specs.Prelude.{◌≡◌, ◌≤◌, true, length};
-ghost use Rattle.table.specs.Rows.{row_start};
+ghost use Rattle.std.specs.Prelude.{◌≡◌, true};
 ghost use Rattle.table.specs.Network.{shape};
 
-use bits::choice::choose;
 use bits::flags::{BROADCASTS, POR, RECON, RI, TA, TMA};
 use bits::way::Way;
 use print::gather::Output;
 use registers::regs::Regs;
 use std::io;
-use table::network::{HEADER, LOST, PASS, phase, row_from, rows, wide};
+use table::network::{LOST, PASS, phase, rows, wide};
+use table::walk::Rows;
 
 // The names of the flags that are set. TTA and TRI are a chaining row's: in another no end waits to be cleared.
 fn flags<P: Print>(out: &mut Output<P>, g: Regs) -> io::Result<()> {
@@ -37,15 +36,21 @@ fn page(entry: u8) -> u8 {
 
 // The columns LINE and TX, and RX up to its first page: on or off line, and the pages that wait, oldest first.
 fn cells(g: Regs) -> [u8; 14] {
-    let on = g.on_line();
-    let two = g.transmit.two(Way::Transmit);
     let mut cells = *b"  OFF   -    -";
-    cells[3] = choose(on, b'N', b'F');
-    cells[4] = choose(on, b' ', b'F');
-    cells[8] = choose(g.waiting(Way::Transmit), page(g.transmit.oldest), b'-');
-    cells[9] = choose(two, b',', b' ');
-    cells[10] = choose(two, page(g.transmit.second), b' ');
-    cells[13] = choose(g.waiting(Way::Receive), page(g.receive.oldest), b'-');
+    if g.on_line() {
+        cells[3] = b'N';
+        cells[4] = b' ';
+    }
+    if g.waiting(Way::Transmit) {
+        cells[8] = page(g.transmit.oldest);
+    }
+    if g.transmit.two(Way::Transmit) {
+        cells[9] = b',';
+        cells[10] = page(g.transmit.second);
+    }
+    if g.waiting(Way::Receive) {
+        cells[13] = page(g.receive.oldest);
+    }
     cells
 }
 
@@ -60,7 +65,8 @@ fn wanted<P: Print>(out: &mut Output<P>, entry: u8) -> io::Result<()> {
 // The rest of the column RX: a second page behind the first.
 fn receives<P: Print>(out: &mut Output<P>, g: Regs) -> io::Result<()> {
     if !g.receive.two(Way::Receive) {
-        return out.text(&[choose(g.receive.oldest & BROADCASTS != 0, b'B', b' '), b' ']);
+        let broadcasts = g.receive.oldest & BROADCASTS != 0;
+        return out.text(if broadcasts { b"B " } else { b"  " });
     }
     wanted(out, g.receive.oldest)?;
     out.text(&[b',', page(g.receive.second)])?;
@@ -85,26 +91,15 @@ fn holder<P: Print>(out: &mut Output<P>, phase: u8, row: usize) -> io::Result<()
     out.number(row)
 }
 
-// A line for each of the first n rows.
-fn table<P: Print>(out: &mut Output<P>, net: &[u8], n: usize) -> io::Result<()>
-    requires { row_start net.now n ≤ length net.now }
-{
-    let mut a = HEADER;
-    for k in 0..n {
-        let card = row_from(net, a);
-        row(out, k, card::row::load(card))?;
-        a += card.len();
-    }
-    Ok(())
-}
-
 // The rows of a network that SHAPE does not refuse.
 pub fn show<P: Print>(out: &mut Output<P>, net: &[u8]) -> io::Result<()>
     requires { shape net.now ≡ true }
 {
     out.text(b" ROW  ID NID  LINE  TX   RX  FLAGS")?;
     out.end()?;
-    table(out, net, rows(net))?;
+    for (k, card) in Rows::first(net, rows(net)).enumerate() {
+        row(out, k, card::row::load(card))?;
+    }
     holder(out, phase(net), table::network::holder(net))?;
     out.text(b" holds\nDONE")?;
     out.end()

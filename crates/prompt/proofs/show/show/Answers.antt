@@ -5,8 +5,8 @@ use Rattle.prompt.proofs.show.show.Goals as goal
 pub rows-requires : goal.rows-requires
 rows-requires g c = (bounds _ c.requires).header
 
-pub table-requires : goal.table-requires
-table-requires g c = (bounds _ c.requires).all _ c.rows.ensures.0
+pub first-requires : goal.first-requires
+first-requires g c = (bounds _ c.requires).all _ c.rows.ensures.0
 
 pub phase-requires : goal.phase-requires
 phase-requires g c = (bounds _ c.requires).header
