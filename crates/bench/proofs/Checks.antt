@@ -1,6 +1,6 @@
 -- SHAPE alone: its number is 0 exactly if the network is well formed. And the lists of the bench's own calls rise: "The smallest number wins".
 -- Assumes nothing.
-use mathlib.Core.Path.{◌≡◌, refl, sym, ◌∙◌}
+use mathlib.Core.Path.{◌≡◌, refl, sym}
 use mathlib.Core.Bool.{true}
 use mathlib.Core.List.{List}
 use Prim.Native.Nat.{ℕ}

@@ -1,6 +1,6 @@
 -- What a line asks.
 -- Assumes nothing.
-use Rattle.std.specs.Prelude.{true, not, ◌||◌, Option, Some, None, Result, Ok, Err, List, [], ◌∷◌, ℕ, ◌≤◌, eqb, ltb, leb, codes}
+use Rattle.std.specs.Prelude.{true, not, ◌||◌, Option, Some, None, Result, Ok, Err, List, [], ◌∷◌, ℕ, ◌≤◌, ltb, leb, codes}
 use Rattle.std.specs.List.{find}
 use Rattle.std.specs.Str.{bytes_eq}
 use Rattle.bits.specs.Words.{pick}
