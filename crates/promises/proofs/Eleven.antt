@@ -9,7 +9,7 @@ use native.Mathlib.Omega.{arith}
 use lib.Dec.{eqb}
 use borrow.Author.Tests.{eqb-false}
 use Rattle.bits.specs.Words.{among}
-use Rattle.bits.proofs.Words.Bools.{cases}
+use Rattle.std.proofs.lemmas.Bool.{cases_Bool}
 use Rattle.told.specs.Refusals.{number_of}
 use Rattle.told.proofs.Told.Smallest.{numbers_rise, never_11}
 use Rattle.told.proofs.Told.One.{refusal_of, refusal_back}
@@ -27,15 +27,15 @@ use Rattle.promises.proofs.Rising.{smallest_wins}
 holder_on_line : (net : List ℕ) → shape net ≡ true → holder_off_line net ≡ false
 holder_on_line net s =
     ⊎_elim (λ (t : eqb (phase net) LOST ≡ true). rw t)
-    (λ (t : eqb (phase net) LOST ≡ false). rw (t, (shape_holder net s (eqb-false (phase net) LOST t)).1)) (cases (eqb (phase net) LOST))
+    (λ (t : eqb (phase net) LOST ≡ false). rw (t, (shape_holder net s (eqb-false (phase net) LOST t)).1)) (cases_Bool (eqb (phase net) LOST))
 
 shape_first : (net : List ℕ) → holder_off_line net ≡ true → shape net ≡ false
-shape_first net h = ⊎_elim (λ s. absurd (false≢true (sym (holder_on_line net s) ∙ h))) (λ s. s) (cases (shape net))
+shape_first net h = ⊎_elim (λ s. absurd (false≢true (sym (holder_on_line net s) ∙ h))) (λ s. s) (cases_Bool (shape net))
 
 load_never : (order net : List ℕ) → load_number order net ≡ 11 → ⊥
 load_never order net e =
     ⊎_elim (λ o. never_11 _ _ (smallest_wins.load_room order net o) e)
-    (λ o. false≢true (ap (among order_numbers) (sym e ∙ ap number (smallest_wins.load_order order net o)) ∙ order_number order o)) (cases (order_fits order))
+    (λ o. false≢true (ap (among order_numbers) (sym e ∙ ap number (smallest_wins.load_order order net o)) ∙ order_number order o)) (cases_Bool (order_fits order))
 
 pub number_eleven : NumberEleven
 number_eleven = record {

@@ -10,7 +10,7 @@ use lib.Dec.{eqb}
 use lib.ListN.{length}
 use borrow.Author.Tests.{eqb-true, not-false}
 use Rattle.bits.specs.Words.{pick, among}
-use Rattle.bits.proofs.Words.Bools.{cases}
+use Rattle.std.proofs.lemmas.Bool.{cases_Bool}
 use Rattle.told.specs.Numbers.{DONE, LENGTH, ROOM, ◌when◌, told}
 use Rattle.told.proofs.Told.Smallest.{refuse_held, refuse_passed, refuse_stays}
 use Rattle.table.specs.Calls.{exact_length}
@@ -45,7 +45,7 @@ module _ (order net : List ℕ) where
       ⊎_elim (λ o. ap (λ (c : Checked). c.bad) (load_room order net o))
       (λ o. let l = order_first order net o in
       ap (λ (c : Checked). c.bad) l ∙ eqb-true _ _ (not-false _ (sym (names_record order) ∙ ap (λ (c : Checked). among record_numbers c.number) (sym l) ∙ a)))
-      (cases (order_fits order))
+      (cases_Bool (order_fits order))
 
   -- the six numbers of an order read as 14
   abbrev read : ℕ → ℕ
@@ -56,14 +56,14 @@ module _ (order net : List ℕ) where
 
   room_before : told (room_refusals order net) ≡ read (told (room_refusals order net))
   room_before =
-      ⊎_elim (λ (t : long ≡ true). rw (refuse_held ROOM long t)) (λ (t : long ≡ false). rw (refuse_passed DONE ROOM long t)) (cases long)
+      ⊎_elim (λ (t : long ≡ true). rw (refuse_held ROOM long t)) (λ (t : long ≡ false). rw (refuse_passed DONE ROOM long t)) (cases_Bool long)
 
   before : read (load_number order net) ≡ told (14 when not (order_fits order) ∷ room_refusals order net)
   before =
       ⊎_elim (λ o. ap (λ (c : Checked). read c.number) (load_room order net o) ∙ sym room_before ∙ rw (refuse_passed DONE 14 (not (order_fits order)) (ap not o)))
       (λ o. ap (λ (c : Checked). read c.number) (order_first order net o)
       ∙ rw (order_number order o, refuse_held 14 (not (order_fits order)) (ap not o), refuse_stays 14 ROOM long (λ z. omega (arith, z))))
-      (cases (order_fits order))
+      (cases_Bool (order_fits order))
 
 pub which_record : WhichRecord
 which_record = record {

@@ -11,7 +11,9 @@ use borrow.Author.Tests.{ltb-true, ltb-false, lt-ltb, le-ltb}
 use Rattle.std.proofs.Common.{Some, None}
 use Rattle.std.specs.Option.{is_some}
 use lib.Dec.{ltb}
-use Rattle.bits.proofs.Words.Bools.{cases, and_left, and_right, or_true, or_left, or_right, pick_of}
+use Rattle.std.proofs.lemmas.Bool.{cases_Bool}
+use Rattle.std.proofs.Math.Bool.{or-true}
+use Rattle.bits.proofs.Words.Bools.{and_left, and_right, or_left, or_right, pick_of}
 use Rattle.table.specs.Folds.{every, some, seek, below}
 
 pub clash : {b : Bool} → b ≡ true → b ≡ false → ⊥
@@ -40,7 +42,7 @@ module _ (f : ℕ → Bool) where
   every_of (suc n) e = rw (every_of n (λ k l. e k (omega arith)), e n (omega arith))
 
   every_broken : (k n : ℕ) → k < n → f k ≡ false → every f n ≡ false
-  every_broken k n h q = ⊎_elim (λ t. absurd (clash (every_at n k t h) q)) (λ t. t) (cases (every f n))
+  every_broken k n h q = ⊎_elim (λ t. absurd (clash (every_at n k t h) q)) (λ t. t) (cases_Bool (every f n))
 
 -- a loop that tests f at each number below n, and stops where it fails: what holds at its head, where it stops, and at its end
 pub record Passed (f : ℕ → Bool) (n k : ℕ) : Type 0 where
@@ -72,7 +74,7 @@ module _ (f : ℕ → Bool) where
   unfolding some
   some_at zero k t h = absurd (not-suc-le-zero h)
   some_at (suc n) k t h =
-      ⊎_elim (λ e. rw (← e, t) (or_true (some f k))) (λ l. rw (some_at n k t l)) (eq-or-lt_of_le (le_of_suc-le-suc h))
+      ⊎_elim (λ e. rw (← e, t) (or-true (some f k))) (λ l. rw (some_at n k t l)) (eq-or-lt_of_le (le_of_suc-le-suc h))
 
   -- where none is found, the test fails at each number, and back
   pub some_fails : (n k : ℕ) → some f n ≡ false → k < n → f k ≡ false
@@ -121,7 +123,7 @@ module _ (f : ℕ → Bool) where
   seek_is n k l t e =
       ⊎_elim (λ b. absurd (clash (seek_found n (omega (arith, ltb-true (seek f n) k b))) (e (seek f n) (ltb-true (seek f n) k b))))
       (λ b. ⊎_elim (λ a. absurd (clash t (seek_least n k (ltb-true k (seek f n) a))))
-      (λ a. omega (arith, ltb-false (seek f n) k b, ltb-false k (seek f n) a)) (cases (ltb k (seek f n)))) (cases (ltb (seek f n) k))
+      (λ a. omega (arith, ltb-false (seek f n) k b, ltb-false k (seek f n) a)) (cases_Bool (ltb k (seek f n)))) (cases_Bool (ltb (seek f n) k))
 
   pub seek_not : (n : ℕ) → ((j : ℕ) → j < n → f j ≡ false) → seek f n ≡ n
   unfolding seek
@@ -163,4 +165,4 @@ pub below_none : (n f : ℕ) → f ≡ n → None ≡ below n f
 below_none n f e = rw (e, le-ltb n n (omega arith))
 
 pub below_some : (n f : ℕ) → is_some (below n f) ≡ ltb f n
-below_some n f = ⊎_elim (λ t. rw t) (λ t. rw t) (cases (ltb f n))
+below_some n f = ⊎_elim (λ t. rw t) (λ t. rw t) (cases_Bool (ltb f n))

@@ -12,7 +12,7 @@ use Rattle.card.specs.declared.packets.Shape.{Shape}
 use Rattle.card.specs.declared.packets.Shape.TheVariants.{Malformed, Short, Long}
 use Rattle.told.specs.Numbers.{DONE, ROW, VALUE, numbers_of, rises_from}
 use Rattle.card.specs.Packets.{malformed, data_bytes, page_shape, data_refusals, data_number, page_data}
-use Rattle.bits.proofs.Words.Bools.{cases}
+use Rattle.std.proofs.lemmas.Bool.{cases_Bool}
 use Rattle.told.proofs.Told.Smallest.{refuse_held, refuse_passed}
 
 no_data : (s : Shape) (l : List ℕ) → malformed s ≡ true → take (data_bytes s) l ≡ []
@@ -27,8 +27,8 @@ data_refused r k n =
     (λ (t : ltb 3 k ≡ false). rw t
     (⊎_elim (λ (m : malformed (page_shape r k) ≡ true). no_data (page_shape r k) _ m)
     (λ (m : malformed (page_shape r k) ≡ false). absurd (n (refuse_passed DONE VALUE (ltb 3 k || malformed (page_shape r k)) (rw (t, m)))))
-    (cases (malformed (page_shape r k)))))
-    (cases (ltb 3 k))
+    (cases_Bool (malformed (page_shape r k)))))
+    (cases_Bool (ltb 3 k))
 
 pub page_refused : (r : List ℕ) (k : ℕ) → ltb 3 k ≡ true → data_number r k ≡ 0 → ⊥
 unfolding data_refusals

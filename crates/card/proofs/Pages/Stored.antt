@@ -16,7 +16,7 @@ use Rattle.card.specs.declared.packets.Packet.{Packet}
 use Rattle.bits.specs.Words.{pick}
 use Rattle.card.specs.Row.{register_bytes, regs_of}
 use Rattle.card.specs.Packets.{shape_of, data_bytes, data_at, head_bytes, page_bytes, page_of, page_at, page_shape, page_data, malformed, laid, head_of, data_of, stored, stamped}
-use Rattle.bits.proofs.Words.Bools.{cases}
+use Rattle.std.proofs.lemmas.Bool.{cases_Bool}
 use Rattle.card.proofs.Words.Laid.{length_part, length_laid, laid_below, laid_within, laid_above, laid_back}
 use Rattle.card.proofs.Rows.Sizes.{SameSize, size_of, size_set}
 use Rattle.card.proofs.Pages.Places.{page_behind, place_same, page_same}
@@ -96,7 +96,7 @@ module _ (r : List ℕ) (a : ℕ) (k : Packet) (f : a + page_bytes k.shape ≤ l
   stored_head i h =
       ⊎_elim (λ t. front (ltb-true i _ t))
       (λ t. stored_data i (ltb-false i _ t) (omega (arith, head_most k.shape)))
-      (cases (ltb i (data_at k.shape)))
+      (cases_Bool (ltb i (data_at k.shape)))
     where
       front : i < data_at k.shape → get_or (stored r a k) (a + i) 0 ≡ get_or k.bytes i 0
       front q =

@@ -15,7 +15,9 @@ use Rattle.registers.specs.declared.regs.Regs.{Regs}
 use Rattle.card.specs.Row.{register_bytes, regs_of, put_regs, stretch, spare, marked, well_formed}
 use Rattle.registers.specs.Layout.{at_id, at_received, at_fetched, at_nak_high, bytes_of, later_of, held}
 use Rattle.registers.specs.Fit.{fit}
-use Rattle.bits.proofs.Words.Bools.{cases, and_left, and_right, and_false, or_left, or_right}
+use Rattle.std.proofs.lemmas.Bool.{cases_Bool}
+use Rattle.std.proofs.Math.Bool.{and-false}
+use Rattle.bits.proofs.Words.Bools.{and_left, and_right, or_left, or_right}
 use Rattle.bits.proofs.Words.Table.{by_table}
 use Rattle.card.proofs.Rows.Sizes.{SameSize, size_of}
 
@@ -62,14 +64,14 @@ module _ (r : List ℕ) (g : Regs) where
       outside : (a b : ℕ) (l vs : List ℕ) → (leb a i && leb i b) ≡ false → a + length vs ≡ suc b → get_or (sets l a vs) i 0 ≡ get_or l i 0
       outside a b l vs e n =
           ⊎_elim (λ (t : leb a i ≡ true). above i l a vs (let u : leb i b ≡ false = rw t at e in omega (arith, n, leb-false i b u)))
-          (λ (t : leb a i ≡ false). below i l a vs (leb-false a i t)) (cases (leb a i))
+          (λ (t : leb a i ≡ false). below i l a vs (leb-false a i t)) (cases_Bool (leb a i))
 
   pub size_put : SameSize r (put_regs r g)
   size_put = size_of r (put_regs r g) length_put (λ x b. put_rest x (rw (lt-leb at_id x (omega arith), lt-leb at_fetched x (omega arith))))
 
   pub put_ram : (i : ℕ) → register_bytes ≤ i → get_or (put_regs r g) i 0 ≡ get_or r i 0
   put_ram i h =
-      put_rest i (rw (lt-leb i at_received (omega arith), lt-leb i at_nak_high (omega arith), and_false (leb at_id i), and_false (leb at_fetched i)))
+      put_rest i (rw (lt-leb i at_received (omega arith), lt-leb i at_nak_high (omega arith), and-false (leb at_id i), and-false (leb at_fetched i)))
 
   module _ (h : register_bytes ≤ length r) where
     pub put_at : (k : ℕ) → k < 18 → get_or (put_regs r g) (at_id + k) 0 ≡ get_or (bytes_of g) k 0
@@ -133,10 +135,10 @@ module _ (r s : List ℕ) (l : length s ≡ length r) where
       )
     where
       between : (i : ℕ) → 1 + at_received ≤ i → i < at_fetched → held i ≡ false
-      between i a b = rw (lt-leb i at_received a, lt-leb at_fetched i b, and_false (leb at_id i))
+      between i a b = rw (lt-leb i at_received a, lt-leb at_fetched i b, and-false (leb at_id i))
 
       behind : (i : ℕ) → 1 + at_nak_high ≤ i → held i ≡ false
-      behind i a = rw (lt-leb i at_received (omega arith), lt-leb i at_nak_high a, and_false (leb at_id i), and_false (leb at_fetched i))
+      behind i a = rw (lt-leb i at_received (omega arith), lt-leb i at_nak_high a, and-false (leb at_id i), and-false (leb at_fetched i))
 
   -- a row that differs in its RAM alone
   pub well_same : register_bytes ≤ length r → ((i : ℕ) → i < register_bytes → get_or s i 0 ≡ get_or r i 0) → well_formed s ≡ well_formed r

@@ -16,7 +16,9 @@ use Rattle.bits.specs.Words.{among}
 use Rattle.registers.specs.Layout.{at_id, at_received, at_fetched, at_nak_high, reset_bytes, read_changes, write_changes}
 use Rattle.registers.specs.Sides.{chaining}
 use Rattle.registers.specs.Registers.{pointer, hardware_reset}
-use Rattle.bits.proofs.Words.Bools.{cases, and_left, and_right, and_true, and_false, or_left, or_right, pick_of}
+use Rattle.std.proofs.lemmas.Bool.{cases_Bool}
+use Rattle.std.proofs.Math.Bool.{and-true, and-false}
+use Rattle.bits.proofs.Words.Bools.{and_left, and_right, or_left, or_right, pick_of}
 use Rattle.registers.proofs.Values.Keeps.{Keeps}
 use Rattle.registers.proofs.Values.KeepsCalls.{keeps_read}
 use Rattle.registers.proofs.Values.Unqueued.{unqueued_fit}
@@ -47,8 +49,8 @@ only_put l r g h q = record {
       (λ k b k-is. put_at r g h k b ∙ q.kept k (rw k-is at e) ∙ regs_at_lem r k b))
       (λ (t : (leb at_id i && leb i at_received) ≡ false). ⊎_elim (λ (u : (leb at_fetched i && leb i at_nak_high) ≡ true). inside at_fetched at_nak_high 3 i u refl
       (λ k b k-is. put_later r g h k b ∙ q.later k (rw k-is at e) ∙ later_at r k b))
-      (λ (u : (leb at_fetched i && leb i at_nak_high) ≡ false). put_rest r g i (rw (t, u))) (cases (leb at_fetched i && leb i at_nak_high)))
-      (cases (leb at_id i && leb i at_received));
+      (λ (u : (leb at_fetched i && leb i at_nak_high) ≡ false). put_rest r g i (rw (t, u))) (cases_Bool (leb at_fetched i && leb i at_nak_high)))
+      (cases_Bool (leb at_id i && leb i at_received));
 }
   where
     -- a byte from a to b, by how far it is from a
@@ -74,8 +76,8 @@ module _ (r : List ℕ) (a : ℕ) (k : Packet) (f : a + page_bytes k.shape ≤ l
   both_false false b e t = absurd (false≢true t)
 
   and_swap : (a b : Bool) → (a && b) ≡ false → (b && a) ≡ false
-  and_swap true b e = and_true b ∙ e
-  and_swap false b e = and_false b
+  and_swap true b e = and-true b ∙ e
+  and_swap false b e = and-false b
 
   -- in the page, and not in head or data: the gap
   kept_gap : (i : ℕ) → in_packet a k.shape i ≡ false → a ≤ i → i < a + page_bytes k.shape → get_or (stored r a k) i 0 ≡ get_or r i 0
@@ -96,8 +98,8 @@ module _ (r : List ℕ) (a : ℕ) (k : Packet) (f : a + page_bytes k.shape ≤ l
         (λ (t : ltb i a ≡ false). ⊎_elim
         (λ (u : ltb i (a + page_bytes k.shape) ≡ true). kept_gap i e (ltb-false i _ t) (ltb-true i _ u))
         (λ (u : ltb i (a + page_bytes k.shape) ≡ false). stored_outside r a k f l b i (inr (ltb-false i _ u)))
-        (cases (ltb i (a + page_bytes k.shape))))
-        (cases (ltb i a));
+        (cases_Bool (ltb i (a + page_bytes k.shape))))
+        (cases_Bool (ltb i a));
   }
 
 -- ---- the register accesses

@@ -14,7 +14,7 @@ use Rattle.registers.specs.declared.regs.Regs.{Regs}
 use Rattle.card.specs.declared.packets.Packet.{Packet}
 use Rattle.card.specs.Row.{regs_of, put_regs, register_bytes}
 use Rattle.card.specs.Packets.{data_at, head_bytes, page_bytes, page_at, page_shape, packet_at, stored, stamped}
-use Rattle.bits.proofs.Words.Bools.{cases}
+use Rattle.std.proofs.lemmas.Bool.{cases_Bool}
 use Rattle.card.proofs.Rows.Bytes.{put_ram}
 use Rattle.card.proofs.Pages.Stored.{stored_outside, stored_gap, stored_data, stored_head}
 use Rattle.card.proofs.Pages.Places.{page_behind}
@@ -28,14 +28,14 @@ small_take : (n : ℕ) (l : List ℕ) → Small l → Small (take n l)
 small_take n l b i =
     ⊎_elim (λ (t : ltb i n ≡ true). rw (get_or-take n l i 0 (ltb-true i n t)) (b i))
     (λ (t : ltb i n ≡ false). rw (get_or-eq_default (take n l) 0 {n = i} (simp length-take (omega (arith, ltb-false i n t)))) (omega arith))
-    (cases (ltb i n))
+    (cases_Bool (ltb i n))
 
 small_append : (l m : List ℕ) → Small l → Small m → Small (l ++ m)
 small_append l m a b i =
     ⊎_elim (λ (t : ltb i (length l) ≡ true). rw (get_or-append l m 0 i (ltb-true i (length l) t)) (a i))
     (λ (t : ltb i (length l) ≡ false). let e : i ≡ length l + (i - length l) = omega (arith, ltb-false i (length l) t) in
     rw (e, get_or-append-add l m (i - length l) 0) (b (i - length l)))
-    (cases (ltb i (length l)))
+    (cases_Bool (ltb i (length l)))
 
 small_zeros : (n : ℕ) → Small (replicate n 0)
 small_zeros zero i = omega arith
@@ -67,13 +67,13 @@ module _ (r : List ℕ) (b : Ram r) where
   ram_set a v d i h =
       ⊎_elim (λ (t : eqb i a ≡ true). rw (eqb-true i a t) there)
       (λ (t : eqb i a ≡ false). rw (get_or-set_other r a i v 0 (eqb-false i a t)) (b i h))
-      (cases (eqb i a))
+      (cases_Bool (eqb i a))
     where
       there : get_or (set r a v) a 0 < 256
       there =
           ⊎_elim (λ t. rw (get_or-set_same r a v 0 (ltb-true a (length r) t)) d)
           (λ t. rw (get_or-eq_default (set r a v) 0 {n = a} (omega (arith, length-set r a v, ltb-false a (length r) t))) (omega arith))
-          (cases (ltb a (length r)))
+          (cases_Bool (ltb a (length r)))
 
   pub ram_stamped : (a : ℕ) → (regs_of r).id < 256 → Ram (stamped r a)
   unfolding stamped
@@ -86,8 +86,8 @@ module _ (r : List ℕ) (b : Ram r) where
         ⊎_elim (λ t. rw (stored_head r a k f n c j (ltb-true j (head_bytes k.shape) t)) (q j))
         (λ t. ⊎_elim
         (λ u. rw (stored_gap r a k f n c (a + j) (omega (arith, ltb-false j (head_bytes k.shape) t)) (omega (arith, ltb-true j (data_at k.shape) u))) (b (a + j) (omega arith)))
-        (λ u. rw (stored_data r a k f n c j (ltb-false j (data_at k.shape) u) h) (q j)) (cases (ltb j (data_at k.shape))))
-        (cases (ltb j (head_bytes k.shape)))
+        (λ u. rw (stored_data r a k f n c j (ltb-false j (data_at k.shape) u) h) (q j)) (cases_Bool (ltb j (data_at k.shape))))
+        (cases_Bool (ltb j (head_bytes k.shape)))
 
     pub ram_stored : Ram (stored r a k)
     ram_stored i h =
@@ -96,5 +96,5 @@ module _ (r : List ℕ) (b : Ram r) where
         (λ u. let e : a + (i - a) ≡ i = omega (arith, ltb-false i a t) in
         rw e at (within (i - a) (omega (arith, ltb-false i a t, ltb-true i (a + page_bytes k.shape) u))))
         (λ u. rw (stored_outside r a k f n c i (inr (ltb-false i (a + page_bytes k.shape) u))) (b i h))
-        (cases (ltb i (a + page_bytes k.shape))))
-        (cases (ltb i a))
+        (cases_Bool (ltb i (a + page_bytes k.shape))))
+        (cases_Bool (ltb i a))

@@ -8,7 +8,7 @@ use Prim.Native.Nat.{ℕ, zero, suc, ◌+◌, ◌%◌, ◌<◌, ◌≤◌}
 use native.Mathlib.Nat.{add-zero}
 use native.Mathlib.Omega.{arith}
 use borrow.Author.Tests.{eq-eqb, ne_eqb}
-use Rattle.bits.proofs.Words.Bools.{and_false}
+use Rattle.std.proofs.Math.Bool.{and-false}
 use Rattle.desk.proofs.ById.Ring.{Took, Missed, next, upd, heeds, turn, Runs, stop, go, calls, script}
 
 -- the last of g and the list
@@ -50,7 +50,7 @@ module _ (on : ℕ → Bool) where
   miss g x f e o = rw (e, o)
 
   pub own : (x : ℕ) → heeds on x x ≡ false
-  own x = rw (eq-eqb x x refl) (and_false (on x))
+  own x = rw (eq-eqb x x refl) (and-false (on x))
 
   -- the NID of each on-line ID that is still to come is its own
   abbrev pub Fresh : ℕ → ℕ → (ℕ → ℕ) → Type 0

@@ -13,7 +13,7 @@ use lib.Seq.{take-suc-set}
 use borrow.Author.Tests.{eqb-true, eqb-false, ltb-true, ltb-false}
 use Rattle.registers.specs.declared.regs.Regs.{Regs}
 use Rattle.bits.specs.Words.{pick}
-use Rattle.bits.proofs.Words.Bools.{cases}
+use Rattle.std.proofs.lemmas.Bool.{cases_Bool}
 use Rattle.line.specs.Answers.{Answer}
 use Rattle.line.specs.Answers.{Refused, Quiet, Recovered, Passed, Unanswered, TokenLost, Held}
 use Rattle.table.specs.Network.{row_limit, rows, regs_at}
@@ -102,13 +102,13 @@ module _ (net : List ℕ) (first : ℕ) (now : List ℕ) (list : List Taker) (n 
   last : back_to first net v.k ≡ true → suc v.k ≡ 255 + 2 * nodes net
   last t =
       ⊎_elim (λ (l : ltb v.k end ≡ true). absurd (clash t (v.course.not_yet v.k (ltb-true v.k end l))))
-      (λ (l : ltb v.k end ≡ false). omega (arith, ltb-false v.k end l, v.away refl)) (cases (ltb v.k end))
+      (λ (l : ltb v.k end ≡ false). omega (arith, ltb-false v.k end l, v.away refl)) (cases_Bool (ltb v.k end))
 
   not_last : back_to first net v.k ≡ false → suc v.k < 255 + 2 * nodes net
   not_last f =
       ⊎_elim
       (λ (e : eqb v.k end ≡ true). let t : back_to first net v.k ≡ true = rw (eqb-true v.k end e) v.course.again in absurd (clash t f))
-      (λ (e : eqb v.k end ≡ false). far (eqb-false v.k end e)) (cases (eqb v.k end))
+      (λ (e : eqb v.k end ≡ false). far (eqb-false v.k end e)) (cases_Bool (eqb v.k end))
     where
       far : (v.k ≡ end → ⊥) → suc v.k < 255 + 2 * nodes net
       far d = omega (arith, v.away refl, d)

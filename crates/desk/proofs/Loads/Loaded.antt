@@ -14,7 +14,7 @@ use Rattle.card.specs.Row.{regs_of}
 use Rattle.registers.specs.Registers.{hardware_reset}
 use Rattle.told.specs.Numbers.{DONE, told}
 use Rattle.card.specs.Access.{fresh_row}
-use Rattle.bits.proofs.Words.Bools.{cases}
+use Rattle.std.proofs.lemmas.Bool.{cases_Bool}
 use Rattle.card.proofs.Rows.WellFormed.{fresh_off}
 use Rattle.card.proofs.Rows.WellFormed.{regs_fresh}
 use Rattle.table.specs.Rows.{row_at}
@@ -80,8 +80,8 @@ module _ (order : List ℕ) (o : order_fits order ≡ true) where
         (λ t. ⊎_elim
         (λ b. absurd (ne (order_differ order o j k (omega (arith, w.count)) l (sym (w.done j (ltb-true j k b)).1 ∙ node_id net j i t))))
         (λ b. absurd (clash (node_online net j i t) (fresh_row_off net j (w.rest j (ltb-false j k b) (omega (arith, w.count))))))
-        (cases (ltb j k)))
-        (λ t. t) (cases (is_node net i j))
+        (cases_Bool (ltb j k)))
+        (λ t. t) (cases_Bool (is_node net i j))
 
     reset : regs_at net k ≡ hardware_reset
     reset = ap regs_of (w.rest k (omega arith) l) ∙ regs_fresh
@@ -135,7 +135,7 @@ module _ (order net : List ℕ) (z : load_number order net ≡ 0) where
   loaded_fits =
       ⊎_elim (λ t. told_fits order (eqb-true _ _ t))
       (λ t. let u = eqb-false (checked order).number DONE t in absurd (u (sym (ap number (load_order order net u)) ∙ z)))
-      (cases (eqb (checked order).number DONE))
+      (cases_Bool (eqb (checked order).number DONE))
 
   made : net_after_fresh net (records order) ≡ fresh_net (records order)
   made =

@@ -8,7 +8,7 @@ use Prim.Native.Nat.{ℕ, zero, suc, ◌+◌, ◌*◌, ◌<◌, ◌≤◌}
 use native.Mathlib.Omega.{arith}
 use lib.ListN.{length}
 use borrow.Author.Tests.{eq-eqb}
-use Rattle.bits.proofs.Words.Bools.{cases}
+use Rattle.std.proofs.lemmas.Bool.{cases_Bool}
 use Rattle.table.specs.Network.{rows, phase, holder, LOST, TAKEN, regs_at, is_node, top_id, shape}
 use Rattle.line.specs.Step.{step, highest, answer_value}
 use Rattle.table.proofs.Folds.{seek_is, some_not}
@@ -60,7 +60,7 @@ module _ (net : List ℕ) (s : shape net ≡ true) (b : Rams net) (lost : phase 
       some_not (is_node net y) (rows net)
       (λ j l. ⊎_elim
       (λ t. absurd (let i = node_id net j y t in omega (arith, i, top_above net (rows net) j l (node_online net j y t))))
-      (λ f. f) (cases (is_node net y j)))
+      (λ f. f) (cases_Bool (is_node net y j)))
 
   pub many : 2 ≤ length (roster (on net s))
   many = omega (arith, roster_nodes)

@@ -10,7 +10,9 @@ use native.Mathlib.Omega.{arith}
 use lib.ListN.{length}
 use lib.Dec.{eqb}
 use borrow.Author.Tests.{eqb-true, eqb-false}
-use Rattle.bits.proofs.Words.Bools.{cases, or_false, or_true, pick_of}
+use Rattle.std.proofs.lemmas.Bool.{cases_Bool}
+use Rattle.std.proofs.Math.Bool.{or-false, or-true}
+use Rattle.bits.proofs.Words.Bools.{pick_of}
 use Rattle.std.specs.List.{filter}
 use Rattle.registers.specs.Fit.{on_line}
 use Rattle.card.specs.Row.{regs_of}
@@ -55,20 +57,20 @@ abbrev pub on_first : List ℕ → ℕ → ℕ → Bool
 on_first net n x = some (is_node net x) n
 
 not_node : (net : List ℕ) (k x : ℕ) → (is_node net x k ≡ true → ⊥) → is_node net x k ≡ false
-not_node net k x n = ⊎_elim (λ t. absurd (n t)) (λ f. f) (cases (is_node net x k))
+not_node net k x n = ⊎_elim (λ t. absurd (n t)) (λ f. f) (cases_Bool (is_node net x k))
 
 module _ (net : List ℕ) (k : ℕ) where
   more : (x : ℕ) → on_first net (suc k) x ≡ (on_first net k x || is_node net x k)
   more x = rw (← add-one) (some_more (is_node net x) k)
 
   off_same : on_line_at net k ≡ false → on_first net (suc k) ≡ on_first net k
-  off_same o = fun_ext (λ x. more x ∙ rw (not_node net k x (λ t. clash (node_online net k x t) o)) (or_false (on_first net k x)))
+  off_same o = fun_ext (λ x. more x ∙ rw (not_node net k x (λ t. clash (node_online net k x t) o)) (or-false (on_first net k x)))
 
   on_here : on_line_at net k ≡ true → on_first net (suc k) (regs_at net k).id ≡ true
-  on_here o = let i = (regs_at net k).id in more i ∙ rw (node_of_lem net k i o refl) (or_true (on_first net k i))
+  on_here o = let i = (regs_at net k).id in more i ∙ rw (node_of_lem net k i o refl) (or-true (on_first net k i))
 
   on_other : (x : ℕ) → x ≢ (regs_at net k).id → on_first net (suc k) x ≡ on_first net k x
-  on_other x n = more x ∙ rw (not_node net k x (λ t. n (sym (node_id net k x t)))) (or_false (on_first net k x))
+  on_other x n = more x ∙ rw (not_node net k x (λ t. n (sym (node_id net k x t)))) (or-false (on_first net k x))
 
 -- IDs of on-line rows differ and are bytes
 pub record Ids (net : List ℕ) (n : ℕ) : Type 0 where
@@ -102,7 +104,7 @@ on_rows net zero k = let z : k + 0 ≡ k = omega arith in rw z (omega arith)
 on_rows net (suc m) k =
     let ih = on_rows net m (suc k) in
     let e : k + suc m ≡ suc k + m = omega arith in
-    rw e (ih ∙ ⊎_elim (λ (t : on_row (row_at net k) ≡ true). rw t (omega arith)) (λ (f : on_row (row_at net k) ≡ false). rw f) (cases (on_row (row_at net k))))
+    rw e (ih ∙ ⊎_elim (λ (t : on_row (row_at net k) ≡ true). rw t (omega arith)) (λ (f : on_row (row_at net k) ≡ false). rw f) (cases_Bool (on_row (row_at net k))))
 
 pub rows_online : (net : List ℕ) (n : ℕ) → length (filter on_row (rows_from net 0 n)) ≡ online net n
 unfolding online
@@ -121,4 +123,4 @@ unfolding online
 some_online net zero h = absurd (omega arith)
 some_online net (suc n) h =
     ⊎_elim (λ (o : on_line_at net n ≡ true). (n, omega arith, o))
-    (λ (o : on_line_at net n ≡ false). let r = some_online net n (rw o at h) in (r.0, omega (arith, r.1), r.2)) (cases (on_line_at net n))
+    (λ (o : on_line_at net n ≡ false). let r = some_online net n (rw o at h) in (r.0, omega (arith, r.1), r.2)) (cases_Bool (on_line_at net n))

@@ -9,7 +9,7 @@ use native.Mathlib.Omega.{arith}
 use lib.Dec.{eqb, ltb}
 use lib.ListN.{length}
 use borrow.Author.Tests.{eqb-true, eqb-false, ltb-true, ltb-false}
-use Rattle.bits.proofs.Words.Bools.{cases}
+use Rattle.std.proofs.lemmas.Bool.{cases_Bool}
 use Rattle.table.specs.Network.{rows, phase, holder, regs_at, on_line_at, shape}
 use Rattle.line.specs.Step.{step, invited, taker, answer_value}
 use Rattle.table.proofs.Shaped.Shapes.{shape_ids}
@@ -66,7 +66,7 @@ module _ (net : List ℕ) (s : shape net ≡ true) where
         (λ t. let n : k ≢ holder now = eqb-false k (holder now) t in
         a.there k (omega (arith, w.nodes.count)) n ∙ w.nids k l o
         ∙ sym (upd_other f g (next (f g)) _ (λ e. n (shape_ids net s k (holder now) l w.row o w.row_on (e ∙ sym w.row_id)))))
-        (cases (eqb k (holder now)))
+        (cases_Bool (eqb k (holder now)))
 
     passes : Holds false → Followed now (turn (on net s) (record { taken = false; holder = g; nid = f }))
     passes w = by (ltb (taker now) (rows now)) refl

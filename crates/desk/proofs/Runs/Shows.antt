@@ -8,7 +8,8 @@ use Prim.Native.Nat.{ℕ, ◌<◌, ◌≤◌}
 use native.Mathlib.Omega.{arith}
 use lib.Dec.{eqb}
 use borrow.Author.Tests.{ne_eqb, eqb-false}
-use Rattle.bits.proofs.Words.Bools.{cases, and_false}
+use Rattle.std.proofs.lemmas.Bool.{cases_Bool}
+use Rattle.std.proofs.Math.Bool.{and-false}
 use Rattle.table.specs.Network.{rows, phase, holder, PASS, TAKEN, regs_at, on_line_at, is_node, shape}
 use Rattle.line.specs.Step.{invited, taker}
 use Rattle.table.proofs.Folds.{clash, some_at, some_not}
@@ -79,9 +80,9 @@ module _ (net : List ℕ) (s : shape net ≡ true) where
     module _ (q : rows now ≤ taker now) where
       pub missed : heeds on g (f g) ≡ false
       missed =
-          ⊎_elim (λ e. rw e (and_false (on (f g))))
+          ⊎_elim (λ e. rw e (and-false (on (f g))))
           (λ (e : eqb (f g) g ≡ false). rw (some_not (is_node net (f g)) (rows net) (λ j l. nobody j l (eqb-false (f g) g e))))
-          (cases (eqb (f g) g))
+          (cases_Bool (eqb (f g) g))
         where
           nobody : (j : ℕ) → j < rows net → f g ≢ g → is_node net (f g) j ≡ false
           nobody j l n =
@@ -90,4 +91,4 @@ module _ (net : List ℕ) (s : shape net ≡ true) where
               let o : is_node now (invited now) j ≡ true = rw (invites, ← i) (is_node_lem j l (node_online net j (f g) t)) in
               absurd (clash o (node_of_fails now (invited now) (holder now) (rows now) (omega (arith, q, node_of_most now (invited now) (holder now) (rows now))) j
               (omega (arith, count)) (λ z. n (sym i ∙ ap (λ (k : ℕ). (regs_at net k).id) z ∙ w.row_id)))))
-              (λ t. t) (cases (is_node net (f g) j))
+              (λ t. t) (cases_Bool (is_node net (f g) j))

@@ -9,7 +9,7 @@ use native.Mathlib.Omega.{arith}
 use lib.Dec.{eqb}
 use lib.ListN.{length}
 use borrow.Author.Tests.{eq-eqb, eqb-true}
-use Rattle.bits.proofs.Words.Bools.{cases}
+use Rattle.std.proofs.lemmas.Bool.{cases_Bool}
 use Rattle.line.specs.Answers.{Answer}
 use Rattle.line.specs.Answers.{Refused, Quiet, Recovered, Passed, Unanswered, TokenLost, Held}
 use Rattle.table.specs.Network.{regs_at}
@@ -40,7 +40,7 @@ not_to net h q i (Refused n) e = refl
 not_to net h q i Quiet e = refl
 not_to net h q i (Recovered r) e = refl
 not_to net h q i (Passed r) e =
-    ⊎_elim (λ t. absurd (clash (eq-eqb _ _ (ap (λ (k : ℕ). (regs_at net k).id) (eqb-true r q t) ∙ i)) e)) (λ t. t) (cases (eqb r q))
+    ⊎_elim (λ t. absurd (clash (eq-eqb _ _ (ap (λ (k : ℕ). (regs_at net k).id) (eqb-true r q t) ∙ i)) e)) (λ t. t) (cases_Bool (eqb r q))
 not_to net h q i (Unanswered x) e = refl
 not_to net h q i TokenLost e = refl
 not_to net h q i (Held o) e = refl

@@ -14,7 +14,9 @@ use Rattle.registers.specs.Layout.{at_fetched}
 use Rattle.registers.specs.Fit.{on_line}
 use Rattle.registers.specs.Registers.{write_fetches, after_write}
 use Rattle.registers.specs.Sides.{chaining}
-use Rattle.bits.proofs.Words.Bools.{cases, and_false, pick_of}
+use Rattle.std.proofs.lemmas.Bool.{cases_Bool}
+use Rattle.std.proofs.Math.Bool.{and-false}
+use Rattle.bits.proofs.Words.Bools.{pick_of}
 use Rattle.registers.proofs.Values.Ahead.{read_unfetched, write_unfetched}
 use Rattle.card.specs.Access.{pointed}
 use Rattle.table.specs.Rows.{row_at}
@@ -60,7 +62,7 @@ module _ {n : ℕ} (k : ℕ) (l : k < n) where
       → fetched_at new k ≡ fetched_at net k
   row_kept {net} {new} {j} o h m =
       ⊎_elim (λ (t : eqb j k ≡ true). rw (eqb-true j k t) at (o.row.same at_fetched (m t)))
-      (λ (t : eqb j k ≡ false). ap (λ (r : List ℕ). get_or r at_fetched 0) (o.others k h (λ e. eqb-false j k t (sym e)))) (cases (eqb j k))
+      (λ (t : eqb j k ≡ false). ap (λ (r : List ℕ). get_or r at_fetched 0) (o.others k h (λ e. eqb-false j k t (sym e)))) (cases_Bool (eqb j k))
 
   module _ (net : List ℕ) (g : Good n net) where
     here : k < rows net
@@ -68,8 +70,8 @@ module _ {n : ℕ} (k : ℕ) (l : k < n) where
 
     write_kept : (r v : ℕ) → write_fetches r ≡ false → net_write_moves net k r v at_fetched ≡ false
     write_kept r v e =
-        rw (write_unfetched (regs_at net k) r e, ne_eqb at_fetched (pointed (row_at net k)) (λ i. omega (arith, i)), and_false (eqb r 4))
-        (and_false (not (on_line_at net k) && on_line (after_write (regs_at net k) r v)))
+        rw (write_unfetched (regs_at net k) r e, ne_eqb at_fetched (pointed (row_at net k)) (λ i. omega (arith, i)), and-false (eqb r 4))
+        (and-false (not (on_line_at net k) && on_line (after_write (regs_at net k) r v)))
 
     call_kept : (c : Call) → sets k c net ≡ false → fetched_at (called c net) k ≡ fetched_at net k
     unfolding net_after_lap

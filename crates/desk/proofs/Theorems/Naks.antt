@@ -13,7 +13,8 @@ use Rattle.registers.specs.declared.regs.Regs.{Regs}
 use Rattle.registers.specs.Layout.{at_nak_low, at_nak_high, read_changes}
 use Rattle.registers.specs.Registers.{read_fetches}
 use Rattle.registers.specs.Naks.{naks, up_to_limit, drops_naks}
-use Rattle.bits.proofs.Words.Bools.{cases, pick_of, pick_both}
+use Rattle.std.proofs.lemmas.Bool.{cases_Bool}
+use Rattle.bits.proofs.Words.Bools.{pick_of, pick_both}
 use Rattle.registers.proofs.Values.Counts.{idle_naks, excess_is}
 use Rattle.card.specs.Row.{regs_of}
 use Rattle.card.proofs.Rows.Counts.{naks_kept}
@@ -54,7 +55,7 @@ module _ {n : ℕ} (k : ℕ) (l : k < n) where
       → (eqb j k ≡ true → (moves at_nak_low ≡ false) × (moves at_nak_high ≡ false)) → naks_at new k ≡ naks_at net k
   row_kept {net} {new} {j} o h m =
       ⊎_elim (λ (t : eqb j k ≡ true). rw (eqb-true j k t) at (naks_kept (row_at net j) (row_at new j) o.row (m t).0 (m t).1))
-      (λ (t : eqb j k ≡ false). ap (λ (r : List ℕ). naks (regs_of r)) (o.others k h (λ e. eqb-false j k t (sym e)))) (cases (eqb j k))
+      (λ (t : eqb j k ≡ false). ap (λ (r : List ℕ). naks (regs_of r)) (o.others k h (λ e. eqb-false j k t (sym e)))) (cases_Bool (eqb j k))
 
   module _ (net : List ℕ) (g : Good n net) (m : ℕ) (e : Has m net) where
     here : k < rows net
@@ -64,7 +65,7 @@ module _ {n : ℕ} (k : ℕ) (l : k < n) where
     own_write r v =
         ⊎_elim (λ (z : eqb (net_write_number net k r v) 0 ≡ true). rw z (write_naks net g.fits k here r v (eqb-true _ _ z) ∙ pick_both (λ (x y : ℕ). x ≡ up_to_limit y) (drops_naks r v) refl e))
         (λ (z : eqb (net_write_number net k r v) 0 ≡ false). rw z (ap (λ (x : List ℕ). naks_at x k) (write_refused net k r v (eqb-false _ _ z)) ∙ e))
-        (cases (eqb (net_write_number net k r v) 0))
+        (cases_Bool (eqb (net_write_number net k r v) 0))
 
     other : {new : List ℕ} {j : ℕ} {moves : ℕ → Bool} → OnlyRow net new j moves → eqb j k ≡ false → Has m new
     other o t = row_kept o here (λ u. absurd (true≢false (sym u ∙ t))) ∙ e
@@ -73,10 +74,10 @@ module _ {n : ℕ} (k : ℕ) (l : k < n) where
     unfolding net_after_lap
     call_counted (At j (Read r)) = row_kept (read_only net j r) here (λ t. read_uncounted (regs_at net j) r) ∙ e
     call_counted (At j (Write r v b)) =
-        ⊎_elim (λ (t : eqb j k ≡ true). rw (t, eqb-true j k t) (own_write r v)) (λ (t : eqb j k ≡ false). rw t (other (write_only net j r v) t)) (cases (eqb j k))
+        ⊎_elim (λ (t : eqb j k ≡ true). rw (t, eqb-true j k t) (own_write r v)) (λ (t : eqb j k ≡ false). rw t (other (write_only net j r v) t)) (cases_Bool (eqb j k))
     call_counted (At j Reset) =
         ⊎_elim (λ (t : eqb j k ≡ true). rw (t, eqb-true j k t) (reset_naks net g.fits k here (row_placed net k g.fits here)))
-        (λ (t : eqb j k ≡ false). rw t (other (reset_only net j) t)) (cases (eqb j k))
+        (λ (t : eqb j k ≡ false). rw t (other (reset_only net j) t)) (cases_Bool (eqb j k))
     call_counted (At j Timer) = row_kept (timer_only net j) here (λ t. (refl, refl)) ∙ e
     call_counted (At j Interrupt) = e
     call_counted (At j (Data p)) = e

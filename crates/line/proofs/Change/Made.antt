@@ -13,7 +13,8 @@ use Rattle.line.specs.declared.passes.Event.TheVariants.{Recovery, Message, Take
 use Rattle.bits.specs.Words.{pick}
 use Rattle.card.specs.Row.{Whole, regs_of, put_regs, well_formed}
 use Rattle.card.specs.Packets.{page_at, stamped}
-use Rattle.bits.proofs.Words.Bools.{cases, pick_of}
+use Rattle.std.proofs.lemmas.Bool.{cases_Bool}
+use Rattle.bits.proofs.Words.Bools.{pick_of}
 use Rattle.card.proofs.Rows.Sizes.{SameSize, size_same, whole_registers}
 use Rattle.card.proofs.Pages.Places.{page_behind}
 use Rattle.card.proofs.Rows.Bytes.{size_put, regs_put, well_fit}
@@ -107,7 +108,7 @@ module _ (net : List ℕ) (h : ℕ) (s : shape net ≡ true) (l : h < rows net) 
       let e : SameSize (row_at net h) r = rw i at (size_done c a h l) in record {
         frame = rw new (set_row_frame net (rows net) w h l r e);
         row = λ j b. rw (new, is j (row_at net j)) (⊎_elim (λ (t : eqb j h ≡ true). rw (t, eqb-true j h t) (row_at_set_row net (rows net) w h l r e))
-            (λ (t : eqb j h ≡ false). rw t (row_at_set_row_other net (rows net) w h l r e j b (eqb-false j h t))) (cases (eqb j h)));
+            (λ (t : eqb j h ≡ false). rw t (row_at_set_row_other net (rows net) w h l r e j b (eqb-false j h t))) (cases_Bool (eqb j h)));
       }
 
   -- each row is given other bytes

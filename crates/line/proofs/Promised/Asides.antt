@@ -14,7 +14,8 @@ use Rattle.registers.specs.Layout.{at_status, at_diagnostic, at_nid}
 use Rattle.registers.specs.Events.{risen_nid}
 use Rattle.card.specs.Row.{regs_of, Whole}
 use Rattle.card.specs.Moves.{OnlyAt}
-use Rattle.bits.proofs.Words.Bools.{or_left, or_right, or_false, pick_of, pick_both}
+use Rattle.std.proofs.Math.Bool.{or-false}
+use Rattle.bits.proofs.Words.Bools.{or_left, or_right, pick_of, pick_both}
 use Rattle.registers.proofs.Values.Keeps.{Keeps, keeps_same, keeps_recovered, keeps_heard, keeps_answered, keeps_risen}
 use Rattle.card.proofs.Rows.Moves.{only_stays, only_wider, only_put}
 use Rattle.card.proofs.Rows.Sizes.{whole_registers}
@@ -66,4 +67,4 @@ module _ (net : List ℕ) (s : shape net ≡ true) (j : ℕ) (aside : phase net 
   stores_more i =
       pick_both (λ (a b : Bool). a ≡ false → b ≡ false) (eqb (phase net) LOST) (λ e. e)
       (pick_both (λ (a b : Bool). a ≡ false → b ≡ false) (eqb (phase net) PASS) (λ e. e)
-      (pick_both (λ (a b : Bool). a ≡ false → b ≡ false) (eqb j h) (λ e. e) (λ e. or_false (eqb i at_diagnostic) ∙ or_left (eqb i at_diagnostic) _ e)))
+      (pick_both (λ (a b : Bool). a ≡ false → b ≡ false) (eqb j h) (λ e. e) (λ e. or-false (eqb i at_diagnostic) ∙ or_left (eqb i at_diagnostic) _ e)))

@@ -14,7 +14,8 @@ use Rattle.bits.specs.Words.{pick}
 use Rattle.registers.specs.Events.{receiving}
 use Rattle.card.specs.Row.{regs_of, put_regs, well_formed, Whole}
 use Rattle.card.specs.Moves.{OnlyAt}
-use Rattle.bits.proofs.Words.Bools.{or_false, pick_of}
+use Rattle.std.proofs.Math.Bool.{or-false}
+use Rattle.bits.proofs.Words.Bools.{pick_of}
 use Rattle.registers.proofs.Values.Listens.{Listens, listens_same, listens_recovered, listens_heard, listens_answered, reached_risen}
 use Rattle.card.proofs.Rows.Bytes.{regs_put}
 use Rattle.card.proofs.Rows.Moves.{only_stays, only_then, only_wider}
@@ -88,7 +89,7 @@ module _ (net : List ℕ) (s : shape net ≡ true) (b : Rams net) (fault : ℕ) 
           let v : Seen false r = rw none at q in
           let y = v.watches in
           let e = asks_same net s j aside to broadcast k a.whole a.tries a.packet was r refl m w y.0 y.1 in
-          rw (none, or_false (stores_it h (Carries to broadcast k) j (regs_at net j)), ← e)
+          rw (none, or-false (stores_it h (Carries to broadcast k) j (regs_at net j)), ← e)
           (by_asking (stores_it h (Carries to broadcast k) j (regs_of r))
           (λ t. record {
             watches = watched net s j aside to broadcast k a.whole a.tries a.packet was r refl m w y.0 y.1 t;

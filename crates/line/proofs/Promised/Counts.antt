@@ -15,7 +15,8 @@ use Rattle.registers.specs.Layout.{at_nak_low, at_nak_high}
 use Rattle.registers.specs.Events.{cancelled}
 use Rattle.registers.proofs.Values.Counts.{naks_cancelled, up_again, up_same}
 use Rattle.registers.proofs.Values.FitNaks.{up_most}
-use Rattle.bits.proofs.Words.Bools.{cases, pick_of, pick_both}
+use Rattle.std.proofs.lemmas.Bool.{cases_Bool}
+use Rattle.bits.proofs.Words.Bools.{pick_of, pick_both}
 use Rattle.card.proofs.Rows.Counts.{naks_kept}
 use Rattle.table.specs.Rows.{row_at}
 use Rattle.table.specs.Network.{rows, phase, holder, LOST, PASS, TAKEN, regs_at, shape}
@@ -66,7 +67,7 @@ module _ (net : List ℕ) (s : shape net ≡ true) (b : Rams net) (fault k : ℕ
     idle : held (step net fault).answer ≡ false → naks (regs_at new k) ≡ up_to_limit m
     idle n =
         ⊎_elim (λ (t : eqb (phase net) TAKEN ≡ true). ap (λ (x : List ℕ). naks (regs_at x k)) (unheld_taken net fault (eqb-true (phase net) TAKEN t) n) ∙ e)
-        (λ (t : eqb (phase net) TAKEN ≡ false). aside (λ p _. eqb-false (phase net) TAKEN t p) ∙ e) (cases (eqb (phase net) TAKEN))
+        (λ (t : eqb (phase net) TAKEN ≡ false). aside (λ p _. eqb-false (phase net) TAKEN t p) ∙ e) (cases_Bool (eqb (phase net) TAKEN))
 
     own : (o : Outcome) → (step net fault).answer ≡ Held o → k ≡ holder net → naks (regs_at new k) ≡ up_to_limit (outcome_naks o (pick (has CANCEL (regs_at net k).transmit.oldest) 0 m))
     own o a h =

@@ -14,7 +14,9 @@ use Rattle.line.specs.Answers.{Refused, Quiet, Recovered, Passed, Unanswered, To
 use Rattle.registers.specs.Events.{cancelled, transmitting}
 use Rattle.card.specs.Packets.{malformed}
 use Rattle.card.specs.Moves.{OnlyAt}
-use Rattle.bits.proofs.Words.Bools.{cases, and_false, pick_of}
+use Rattle.std.proofs.lemmas.Bool.{cases_Bool}
+use Rattle.std.proofs.Math.Bool.{and-false}
+use Rattle.bits.proofs.Words.Bools.{pick_of}
 use Rattle.table.specs.Rows.{row_at}
 use Rattle.table.specs.Network.{rows, phase, holder, LOST, PASS, TAKEN, regs_at, top_id, shape}
 use Rattle.table.proofs.Online.Nodes.{node_of_found}
@@ -34,8 +36,8 @@ module _ (net : List ℕ) (s : shape net ≡ true) (b : Rams net) (fault j : ℕ
   pub step_moves : Moves
   step_moves =
       ⊎_elim (λ (p : eqb (phase net) TAKEN ≡ true). ⊎_elim (λ (e : eqb j (holder net) ≡ true). holding (eqb-true (phase net) TAKEN p) (eqb-true j (holder net) e))
-      (λ (e : eqb j (holder net) ≡ false). aside (λ _. eqb-false j (holder net) e)) (cases (eqb j (holder net))))
-      (λ (p : eqb (phase net) TAKEN ≡ false). aside (λ t. absurd (eqb-false (phase net) TAKEN p t))) (cases (eqb (phase net) TAKEN))
+      (λ (e : eqb j (holder net) ≡ false). aside (λ _. eqb-false j (holder net) e)) (cases_Bool (eqb j (holder net))))
+      (λ (p : eqb (phase net) TAKEN ≡ false). aside (λ t. absurd (eqb-false (phase net) TAKEN p t))) (cases_Bool (eqb (phase net) TAKEN))
     where
       holding : phase net ≡ TAKEN → j ≡ holder net → Moves
       holding p e = rw e (moves_holder net p s b fault)
@@ -55,7 +57,7 @@ module _ (net : List ℕ) (s : shape net ≡ true) where
   not_own_packet fault j e t =
       let h = holder net in
       let w : takes h (addressee net) (eqb (sent_to net) 0) j (regs_at net j) ≡ false
-      = rw (e, ne_eqb h (addressee net) (λ x. not_self (sym x)), eq-eqb h h refl, and_false (eqb (sent_to net) 0)) in
+      = rw (e, ne_eqb h (addressee net) (λ x. not_self (sym x)), eq-eqb h h refl, and-false (eqb (sent_to net) 0)) in
       let f : stores net fault j ≡ false
       = rw w (none (eqb (step_number net fault) 0) (eqb (phase net) TAKEN) (transmitting (cancelled (regs_at net h))) (not (malformed (sent_shape net))) (not (damaged fault))) in
       false≢true (sym f ∙ t)
@@ -65,7 +67,7 @@ module _ (net : List ℕ) (s : shape net ≡ true) where
       none true false c d e = refl
       none true true false d e = refl
       none true true true false e = refl
-      none true true true true e = and_false e
+      none true true true true e = and-false e
 
 -- ---- Held is answered in TAKEN alone
 abbrev pub held : Answer → Bool

@@ -14,7 +14,8 @@ use Rattle.line.specs.Answers.{Held}
 use Rattle.card.specs.Packets.{malformed, page_shape, destination}
 use Rattle.registers.specs.Events.{cancelled, transmitting, receiving, transmit_page}
 use Rattle.card.specs.Packets.{storable}
-use Rattle.bits.proofs.Words.Bools.{cases, pick_of, pick_both}
+use Rattle.std.proofs.lemmas.Bool.{cases_Bool}
+use Rattle.bits.proofs.Words.Bools.{pick_of, pick_both}
 use Rattle.table.specs.Rows.{row_at}
 use Rattle.table.specs.Network.{rows, phase, holder, LOST, PASS, regs_at, node_of}
 use Rattle.line.specs.Traffic.{Turn, on_row, went_out, broadcast_turn, packet_turn, enquiry_turn, try_turn, taken_turn}
@@ -48,7 +49,7 @@ module _ (net : List ℕ) (h p : ℕ) where
   enquiry_2 t =
       pick_both (Same 2) (ltb t (rows net))
       (pick_both (Same 2) (receiving (regs_at net t))
-      (⊎_elim (λ b. rw b (λ e. absurd (true≢false e))) (λ b. rw b (λ _. refl)) (cases (storable (regs_at net t) (page_shape (row_at net h) p)))) (λ _. refl)) (λ _. refl)
+      (⊎_elim (λ b. rw b (λ e. absurd (true≢false e))) (λ b. rw b (λ _. refl)) (cases_Bool (storable (regs_at net t) (page_shape (row_at net h) p)))) (λ _. refl)) (λ _. refl)
 
   try_2 : Same 2 (try_turn net h p 2) (try_turn net h p 0)
   unfolding try_turn broadcast_turn went_out
@@ -99,7 +100,7 @@ module _ (net : List ℕ) where
       (λ a. ⊎_elim (λ b. rw (eqb-true fault 2 b) (turns 2 pass_2 (tried 2 try_2 (holder net))))
       (λ b. ⊎_elim (λ c. rw (eqb-true fault 3 c) (turns 3 pass_3 (tried 3 (λ m h p _. try_3 m h p) (holder net))))
       (λ c. let z : fault ≡ 0 = omega (arith, eqb-false fault 1 a, eqb-false fault 2 b, eqb-false fault 3 c) in rw z (λ _. refl))
-      (cases (eqb fault 3))) (cases (eqb fault 2))) (cases (eqb fault 1))
+      (cases_Bool (eqb fault 3))) (cases_Bool (eqb fault 2))) (cases_Bool (eqb fault 1))
 
   pub idle_fault : (fault : ℕ) → fault ≤ 3 → meets fault (step net 0).answer ≡ false → step net fault ≡ step net 0
   unfolding step step_number step_refusals

@@ -12,7 +12,7 @@ use Rattle.queues.specs.Queues.{uncleared}
 use Rattle.registers.specs.Sides.{chaining, tta}
 use Rattle.registers.specs.Naks.{naks, up_to_limit, nak_counted}
 use Rattle.registers.specs.Events.{heard, cancelled, sent, transmitting}
-use Rattle.bits.proofs.Words.Bools.{and_true, and_false, or_false}
+use Rattle.std.proofs.Math.Bool.{and-true, and-false, or-false}
 use Rattle.registers.proofs.Values.Fits.{Fit, rules_fit}
 use Rattle.registers.proofs.Values.FitEvents.{fit_cancelled, fit_heard}
 use Rattle.registers.proofs.Values.SameCard.{same_cancelled}
@@ -40,7 +40,7 @@ module _ (was : Regs) (f : Fit was) where
         ta = d.ta ∙ rw (et, e.0);
         tma = d.tma ∙ rw (u, es, cancelled_tma was, t (has TMA was.status));
         page = λ _. d.page ∙ rw et;
-        told = d.told ∙ rw (u, c, e.1, and_true (chaining was));
+        told = d.told ∙ rw (u, c, e.1, and-true (chaining was));
         counted = naks_sent g a ∙ sym (ap up_to_limit (n (naks after_cancels)));
       }
 
@@ -58,7 +58,7 @@ module _ (was : Regs) (f : Fit was) where
         ta = rw d.1.1 d.0;
         tma = cancelled_tma was ∙ sym (either (tta was) (has TMA was.status));
         page = λ _. d.1.0 ∙ nothing_up after_cancels fits d.1.1;
-        told = cancelled_tta was ∙ rw (and_false (chaining was), or_false (tta was));
+        told = cancelled_tta was ∙ rw (and-false (chaining was), or-false (tta was));
         counted = sym (up_same (naks after_cancels) (few_naks after_cancels fits));
       }
     where
@@ -82,7 +82,7 @@ module _ (was : Regs) (f : Fit was) where
         ta = rw i d.0;
         tma = rw i (kept (tta was) (cancelled_tma was) (λ n. d.1 (u ∙ n)));
         page = λ z. absurd (clash z refl);
-        told = ap uncleared (heard_transmit (nak_counted after_cancels) false) ∙ u ∙ rw (and_false (chaining was), or_false (tta was));
+        told = ap uncleared (heard_transmit (nak_counted after_cancels) false) ∙ u ∙ rw (and-false (chaining was), or-false (tta was));
         counted = rw (enquired_nak after_cancels) at (naks_refused after_cancels);
       })
     where
@@ -98,7 +98,7 @@ plain_left was h o f c l =
     let u = unqueued_fit was c (rules_fit was f) in
     let v = unqueued_cancelled was u in
     record {
-      ta = l.ta ∙ rw (v.transmit.second, and_true (outcome_ta o));
+      ta = l.ta ∙ rw (v.transmit.second, and-true (outcome_ta o));
       tma = l.tma ∙ rw u.transmit.done;
       page = λ e. l.page e ∙ rw v.transmit.second;
     }

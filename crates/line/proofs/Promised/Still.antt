@@ -15,7 +15,8 @@ use Rattle.card.specs.declared.packets.Shape.{Shape}
 use Rattle.card.specs.Row.{register_bytes}
 use Rattle.card.specs.Packets.{data_at, page_at}
 use Rattle.card.specs.Moves.{in_packet}
-use Rattle.bits.proofs.Words.Bools.{and_false, or_left, or_right, pick_of}
+use Rattle.std.proofs.Math.Bool.{and-false}
+use Rattle.bits.proofs.Words.Bools.{or_left, or_right, pick_of}
 use Rattle.card.proofs.Pages.Places.{page_behind}
 use Rattle.table.specs.Rows.{row_at}
 use Rattle.table.specs.Network.{phase, holder, LOST, PASS, regs_at}
@@ -48,6 +49,6 @@ module _ (i : ℕ) (low : i < register_bytes) where
         let r = row_at net k in
         let f = flags in
         pick_of No (eqb (phase net) LOST) (λ _. rw (f.0, f.2))
-        (λ l. pick_of No (eqb (phase net) PASS) (λ _. rw (f.1, f.2) (and_false (eqb k (holder net))))
+        (λ l. pick_of No (eqb (phase net) PASS) (λ _. rw (f.1, f.2) (and-false (eqb k (holder net))))
         (λ p. pick_of No (eqb k (holder net)) (λ h. rw (held l p h, no_ram (page_at r (sent_page net)) (page_behind r (sent_page net))))
-        (λ _. rw (f.1, stored (chaining (regs_at net k)), no_packet (page_at r (receive_page (regs_at net k))) (sent_shape net) (page_behind r (receive_page (regs_at net k)))) (and_false storing))))
+        (λ _. rw (f.1, stored (chaining (regs_at net k)), no_packet (page_at r (receive_page (regs_at net k))) (sent_shape net) (page_behind r (receive_page (regs_at net k)))) (and-false storing))))

@@ -22,7 +22,8 @@ use Rattle.registers.specs.Events.{heard, receiving, takes_broadcasts}
 use Rattle.card.specs.Row.{register_bytes, regs_of, put_regs, well_formed, Whole}
 use Rattle.card.specs.Packets.{page_at, storable}
 use Rattle.card.specs.Moves.{OnlyAt}
-use Rattle.bits.proofs.Words.Bools.{cases, and_left, and_right, or_left, or_right, pick_of}
+use Rattle.std.proofs.lemmas.Bool.{cases_Bool}
+use Rattle.bits.proofs.Words.Bools.{and_left, and_right, or_left, or_right, pick_of}
 use Rattle.registers.proofs.Values.Fits.{Fit, fit_rules, rules_fit}
 use Rattle.registers.proofs.Values.Unqueued.{unqueued_fit}
 use Rattle.registers.proofs.Values.Chained.{keeps_chained}
@@ -59,7 +60,7 @@ not_own h to broadcast k r other =
     (λ z. absurd (⊎_elim (λ e. other (sym (eqb-true h to e)))
     (λ e. let o : w ≡ true = rw e at (and_left t (receiving g) (and_left (t && receiving g) (storable g k.shape) z)) in
     eqb-false h h (not-true (eqb h h) (and_right broadcast (not (eqb h h)) (and_left (broadcast && not (eqb h h)) (takes_broadcasts g) o))) refl)
-    (cases (eqb h to)))) (λ _. refl)
+    (cases_Bool (eqb h to)))) (λ _. refl)
 
 -- ---- through each change
 module _ (net : List ℕ) (p : phase net ≡ TAKEN) where

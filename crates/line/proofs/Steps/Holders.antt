@@ -8,7 +8,7 @@ use Prim.Native.Nat.{ℕ, ◌<◌}
 use native.Mathlib.Omega.{arith}
 use lib.Dec.{ltb}
 use borrow.Author.Tests.{ltb-true, ltb-false}
-use Rattle.bits.proofs.Words.Bools.{cases}
+use Rattle.std.proofs.lemmas.Bool.{cases_Bool}
 use Rattle.std.proofs.Common.{Option, Some}
 use Rattle.std.specs.Option.{IsSome}
 use Rattle.table.specs.Folds.{below, not_zero}
@@ -27,7 +27,7 @@ highest_held net ne =
     (b, node_online net (highest net) top (node_of_found net top n n b).0))
     (λ (t : ltb (highest net) n ≡ false). absurd (ne (top_id_nobody net n top refl
     (λ j l. node_of_fails net top n n (omega (arith, ltb-false (highest net) n t, node_of_most net top n n)) j l (λ e. omega arith)))))
-    (cases (ltb (highest net) n))
+    (cases_Bool (ltb (highest net) n))
 
 -- so that a search for it finds a row
 pub highest_found : (net : List ℕ) (n : ℕ) → n ≡ rows net → (top : ℕ) → Some top ≡ not_zero (top_id net n) → (r : Option ℕ) → r ≡ below n (node_of net top n n) → IsSome r

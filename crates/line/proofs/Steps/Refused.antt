@@ -8,7 +8,7 @@ use mathlib.Core.Logic.{⊎_elim}
 use Prim.Native.Nat.{ℕ}
 use lib.Dec.{eqb}
 use borrow.Author.Tests.{ne_eqb, eqb-true, eqb-false}
-use Rattle.bits.proofs.Words.Bools.{cases}
+use Rattle.std.proofs.lemmas.Bool.{cases_Bool}
 use Rattle.told.specs.Numbers.{DONE, ◌when◌, told, Smallest}
 use Rattle.told.proofs.Told.Smallest.{refuse_passed, told_first, told_second, smallest}
 use Rattle.table.specs.Network.{shape}
@@ -27,7 +27,7 @@ module _ (net : List ℕ) (fault : ℕ) where
       let l = step_refusals net fault in
       let more = n when t ∷ [] in
       ⊎_elim (λ e. let z = eqb-true (told l) DONE e in told_second l more z ∙ refuse_passed DONE n t (never (step_shape net fault (told l) refl z)) ∙ sym z)
-      (λ e. told_first l more (eqb-false (told l) DONE e)) (cases (eqb (told l) DONE))
+      (λ e. told_first l more (eqb-false (told l) DONE e)) (cases_Bool (eqb (told l) DONE))
       ∙ sym (answer_number_lem net fault)
 
   pub step_refused : (answer_number (step net fault).answer ≡ 0 → ⊥) → ((step net fault).after ≡ net) × (answer_value (step net fault).answer ≡ 0)

@@ -10,7 +10,8 @@ use borrow.Author.Tests.{eqb-true, eqb-false, not-false}
 use lib.Dec.{eqb, ltb}
 use Rattle.line.specs.Answers.{Answer}
 use Rattle.told.specs.Numbers.{SHAPE}
-use Rattle.bits.proofs.Words.Bools.{cases, pick_of}
+use Rattle.std.proofs.lemmas.Bool.{cases_Bool}
+use Rattle.bits.proofs.Words.Bools.{pick_of}
 use Rattle.told.proofs.Told.Smallest.{none_refuses}
 use Rattle.table.specs.Network.{rows, phase, holder, LOST, PASS, top_id, shape}
 use Rattle.line.specs.Traffic.{Turn}
@@ -21,7 +22,7 @@ use Rattle.table.proofs.Shaped.Shapes.{shape_rows, shape_holder, shape_lost}
 pub held_row : (net : List ℕ) → shape net ≡ true → holder net < rows net
 held_row net s =
     ⊎_elim (λ e. omega (arith, shape_lost net s (eqb-true (phase net) LOST e), (shape_rows net s).0)) (λ e. (shape_holder net s (eqb-false (phase net) LOST e)).0)
-    (cases (eqb (phase net) LOST))
+    (cases_Bool (eqb (phase net) LOST))
 
 module _ (net : List ℕ) (fault : ℕ) where
   module _ (k : ℕ) (number_is : k ≡ step_number net fault) where

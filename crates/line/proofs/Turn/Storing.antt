@@ -12,7 +12,8 @@ use Rattle.line.specs.declared.traffic.Outcome.{Outcome}
 use Rattle.line.specs.declared.traffic.Outcome.TheVariants.{Nothing, Malformed, Broadcast, NoAnswer, Nak, Delivered, Unacknowledged}
 use Rattle.registers.specs.Events.{cancelled, transmitting, receiving, takes_broadcasts}
 use Rattle.card.specs.Packets.{malformed, storable}
-use Rattle.bits.proofs.Words.Bools.{cases, and_false, or_false}
+use Rattle.std.proofs.lemmas.Bool.{cases_Bool}
+use Rattle.std.proofs.Math.Bool.{and-false, or-false}
 use Rattle.registers.proofs.Values.Listens.{takes_receives}
 use Rattle.table.specs.Network.{rows, phase, holder, TAKEN, regs_at}
 use Rattle.line.specs.Traffic.{damaged}
@@ -66,17 +67,17 @@ module _ (net : List ℕ) (fault : ℕ) (z : eqb (step_number net fault) 0 ≡ t
 
     pub stored_alone : (j : ℕ) → (j ≡ to → ⊥) → stores net fault j ≡ false
     unfolding stores
-    stored_alone j n = rw (i, z, p, w, f, d, ne_eqb j to n) (and_false (not (damaged fault)))
+    stored_alone j n = rw (i, z, p, w, f, d, ne_eqb j to n) (and-false (not (damaged fault)))
 
     pub one : receiving (regs_at net to) ≡ true → (not (damaged fault) && storable (regs_at net to) (sent_shape net)) ≡ true → (j : ℕ) → stores net fault j ≡ eqb j to
     one r a j =
         ⊎_elim (λ (e : eqb j to ≡ true). rw (eqb-true j to e, eq-eqb to to refl) (stored_there r ∙ a)) (λ (e : eqb j to ≡ false). rw e (stored_alone j (eqb-false j to e)))
-        (cases (eqb j to))
+        (cases_Bool (eqb j to))
 
     -- nobody, where that row's receiver is not on
     pub unheard : ((j : ℕ) → j < rows net → j ≡ to → receiving (regs_at net j) ≡ false) → (j : ℕ) → j < rows net → false ≡ stores net fault j
     unfolding stores
     unheard deaf j l =
-        rw (i, z, p, w, f, d, or_false (eqb j to))
-        (⊎_elim (λ (e : eqb j to ≡ true). rw (e, deaf j l (eqb-true j to e)) (sym (and_false (not (damaged fault)))))
-        (λ (e : eqb j to ≡ false). rw e (sym (and_false (not (damaged fault))))) (cases (eqb j to)))
+        rw (i, z, p, w, f, d, or-false (eqb j to))
+        (⊎_elim (λ (e : eqb j to ≡ true). rw (e, deaf j l (eqb-true j to e)) (sym (and-false (not (damaged fault)))))
+        (λ (e : eqb j to ≡ false). rw e (sym (and-false (not (damaged fault))))) (cases_Bool (eqb j to)))

@@ -16,7 +16,8 @@ use Rattle.bits.specs.Words.{pick}
 use Rattle.registers.specs.Events.{cancelled, transmitting, receiving, transmit_page}
 use Rattle.card.specs.Row.{regs_of}
 use Rattle.card.specs.Packets.{malformed, page_shape, destination, packet_at, storable}
-use Rattle.bits.proofs.Words.Bools.{and_left, or_false, pick_of}
+use Rattle.std.proofs.Math.Bool.{or-false}
+use Rattle.bits.proofs.Words.Bools.{and_left, pick_of}
 use Rattle.registers.proofs.Values.Ends.{transmit_page_small}
 use Rattle.table.specs.Rows.{row_at}
 use Rattle.table.specs.Network.{rows, phase, holder, TAKEN, regs_at, node_of, shape}
@@ -36,7 +37,7 @@ use Rattle.line.proofs.Turn.Says.{By, tried, SaysHeld, packet_says, packet_tried
 use Rattle.line.proofs.Turn.Sends.{whole_packet}
 
 alone : (a b c : Bool) → (a && b && c || false) ≡ (a && (b && c))
-alone true b c = or_false (b && c)
+alone true b c = or-false (b && c)
 alone false b c = refl
 
 module _ (net : List ℕ) (s : shape net ≡ true) (b : Rams net) (fault : ℕ) (z : eqb (step_number net fault) 0 ≡ true) (p : phase net ≡ TAKEN) where

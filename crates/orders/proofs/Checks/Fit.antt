@@ -9,7 +9,9 @@ use native.Mathlib.Omega.{arith}
 use lib.Dec.{eqb, leb, ltb, lit<}
 use lib.ListN.{length}
 use borrow.Author.Tests.{eq-eqb, ne_eqb, ltb-true, ltb-false, leb-true, not-true, not-false}
-use Rattle.bits.proofs.Words.Bools.{cases, and_left, and_right, or_true, holds}
+use Rattle.std.proofs.lemmas.Bool.{cases_Bool}
+use Rattle.std.proofs.Math.Bool.{or-true}
+use Rattle.bits.proofs.Words.Bools.{and_left, and_right, holds}
 use Rattle.told.specs.Numbers.{DONE, LENGTH, MARK, ORDER_ID, FLAGS, NAME, TWICE, Smallest}
 use Rattle.told.proofs.Told.Smallest.{refuse_passed, smallest, none_refuses, refuses_among}
 use Rattle.bits.specs.Words.{among}
@@ -110,7 +112,7 @@ module _ (order : List ℕ) (o : order_fits order ≡ true) where
   pub order_differ : (j k : ℕ) → j < records order → k < records order → id_at order j ≡ id_at order k → j ≡ k
   order_differ j k lj lk e =
       ⊎_elim (λ b. absurd (below j k (ltb-true _ _ b) lk e))
-      (λ b. ⊎_elim (λ a. absurd (below k j (ltb-true _ _ a) lj (sym e))) (λ a. omega (arith, ltb-false j k b, ltb-false k j a)) (cases (ltb k j))) (cases (ltb j k))
+      (λ b. ⊎_elim (λ a. absurd (below k j (ltb-true _ _ a) lj (sym e))) (λ a. omega (arith, ltb-false j k b, ltb-false k j a)) (cases_Bool (ltb k j))) (cases_Bool (ltb j k))
 
 -- ---- an order that is refused
 abbrev pub order_numbers : List ℕ
@@ -143,5 +145,5 @@ module _ (order : List ℕ) where
   pub order_number : order_fits order ≡ false → among order_numbers (checked order).number ≡ true
   order_number o =
       checked_of order (λ (c : Checked). c ≡ checked order → among order_numbers c.number ≡ true) (λ l e. refl)
-      (λ k f e. rw (record-number k f.fault) (or_true (eqb (record_number order k) LENGTH)))
+      (λ k f e. rw (record-number k f.fault) (or-true (eqb (record_number order k) LENGTH)))
       (λ l g e. absurd (clash (told_fits order (ap (λ (c : Checked). c.number) (sym e))) o)) refl

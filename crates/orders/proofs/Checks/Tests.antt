@@ -9,13 +9,14 @@ use lib.Dec.{eqb, leb, ltb}
 use borrow.Author.Tests.{ltb-true, ltb-false, le-leb, lt-leb}
 use Rattle.std.proofs.Common.{Option}
 use Rattle.std.specs.Option.{is_some}
-use Rattle.bits.proofs.Words.Bools.{cases, pick_of}
+use Rattle.std.proofs.lemmas.Bool.{cases_Bool}
+use Rattle.bits.proofs.Words.Bools.{pick_of}
 use Rattle.table.specs.Folds.{some, seek, below}
 use Rattle.table.proofs.Folds.{some_found, some_missed}
 use Rattle.orders.specs.Form.{id_at, repeats}
 
 pub above : (a b : ℕ) → ltb a b ≡ not (leb b a)
-above a b = ⊎_elim (λ t. rw t (sym (ap not (lt-leb b a (ltb-true a b t))))) (λ t. rw t (sym (ap not (le-leb b a (ltb-false a b t))))) (cases (ltb a b))
+above a b = ⊎_elim (λ t. rw t (sym (ap not (lt-leb b a (ltb-true a b t))))) (λ t. rw t (sym (ap not (le-leb b a (ltb-false a b t))))) (cases_Bool (ltb a b))
 
 -- a search for the ID of record k among the records before it tells whether one has it
 pub repeats_is : (order : List ℕ) (k i : ℕ) (o : Option ℕ) → i ≡ id_at order k → o ≡ below k (seek (λ j. eqb (id_at order j) i) k) → is_some o ≡ repeats order k

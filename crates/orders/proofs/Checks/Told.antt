@@ -14,7 +14,8 @@ use Rattle.told.specs.declared.refusals.Refusal as kinds
 use Rattle.told.specs.Refusals.{number_of}
 use Rattle.told.specs.Numbers.{DONE, LENGTH, refuse}
 use Rattle.told.proofs.Told.Smallest.{refuse_held, refuse_passed}
-use Rattle.bits.proofs.Words.Bools.{cases, pick_of}
+use Rattle.std.proofs.lemmas.Bool.{cases_Bool}
+use Rattle.bits.proofs.Words.Bools.{pick_of}
 use Rattle.table.specs.Folds.{seek}
 use Rattle.table.proofs.Folds.{seek_more}
 use Rattle.orders.specs.declared.check.Bad.{Bad}
@@ -38,10 +39,10 @@ module _ (order : List ℕ) where
   unfolding checked
   tells_length n u h =
       ⊎_elim (λ t. absurd (u (h ∙ refuse_passed DONE LENGTH (not (length_fits order)) (ap not t))))
-      (λ f. ap (λ (m : ℕ). tells m 0) (h ∙ refuse_held LENGTH (not (length_fits order)) (ap not f)) ∙ rw f) (cases (length_fits order))
+      (λ f. ap (λ (m : ℕ). tells m 0) (h ∙ refuse_held LENGTH (not (length_fits order)) (ap not f)) ∙ rw f) (cases_Bool (length_fits order))
 
   pub sized : DONE ≡ refuse DONE LENGTH (not (length_fits order)) → length_fits order ≡ true
-  sized h = ⊎_elim (λ t. t) (λ f. absurd (omega (arith, h ∙ refuse_held LENGTH (not (length_fits order)) (ap not f)))) (cases (length_fits order))
+  sized h = ⊎_elim (λ t. t) (λ f. absurd (omega (arith, h ∙ refuse_held LENGTH (not (length_fits order)) (ap not f)))) (cases_Bool (length_fits order))
 
   module _ (l : length_fits order ≡ true) (k : ℕ) (s : seek (refused order) k ≡ k) where
     pub tells_bad : k < records order → (m : ℕ) → m ≡ record_number order k → (m ≡ DONE → ⊥) → tells m (k + 1) ≡ checked order

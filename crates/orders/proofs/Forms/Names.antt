@@ -13,7 +13,7 @@ use lib.ListN.{length, get_or, take, drop, length-drop}
 use lib.Seq.{take_all}
 use borrow.Author.Tests.{eq-eqb, ne_eqb, ltb-true, ltb-false, le-ltb}
 use Rattle.std.proofs.lemmas.List.Folds.{list_all_at}
-use Rattle.bits.proofs.Words.Bools.{cases}
+use Rattle.std.proofs.lemmas.Bool.{cases_Bool}
 use Rattle.orders.specs.Form.{record_bytes, records, name_of, spaces, trimmed, name_at}
 
 -- ---- trailing spaces
@@ -46,4 +46,4 @@ unfolding name_at
 name_not order k h = rw (le-ltb _ _ h)
 
 pub name_there : (order : List ℕ) (k : ℕ) → (name_at order k ≡ [] → ⊥) → k < records order
-name_there order k f = ⊎_elim (λ t. ltb-true _ _ t) (λ t. absurd (f (name_not order k (ltb-false _ _ t)))) (cases (ltb k (records order)))
+name_there order k f = ⊎_elim (λ t. ltb-true _ _ t) (λ t. absurd (f (name_not order k (ltb-false _ _ t)))) (cases_Bool (ltb k (records order)))

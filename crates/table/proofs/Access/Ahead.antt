@@ -15,7 +15,8 @@ use Rattle.registers.specs.Layout.{at_fetched}
 use Rattle.registers.specs.Registers.{read_fetches, after_write, hardware_reset}
 use Rattle.registers.proofs.Values.SameCard.{SameCard, on_line_same, same_write}
 use Rattle.registers.proofs.Values.Ahead.{load_taken}
-use Rattle.bits.proofs.Words.Bools.{cases, pick_of}
+use Rattle.std.proofs.lemmas.Bool.{cases_Bool}
+use Rattle.bits.proofs.Words.Bools.{pick_of}
 use Rattle.told.proofs.Told.Smallest.{refuse_passed}
 use Rattle.card.specs.Row.{Whole, regs_of}
 use Rattle.card.specs.Access.{Current, row_after_read, row_after_write, row_after_reset}
@@ -90,8 +91,8 @@ module _ (net : List ℕ) (s : shape net ≡ true) (k : ℕ) (l : k < rows net) 
         (λ (u : ltb f (rows net) ≡ true). let b = ltb-true f (rows net) u in
         let q = node_of_found net h.id k (rows net) b in
         absurd (q.1 (shape_ids net s f k b l (node_online net f _ q.0) (sym stays ∙ t) (node_id net f _ q.0 ∙ same.id))))
-        (λ (u : ltb f (rows net) ≡ false). u) (cases (ltb f (rows net)))))
-        (λ (t : on_line h ≡ false). rw t) (cases (on_line h))
+        (λ (u : ltb f (rows net) ≡ false). u) (cases_Bool (ltb f (rows net)))))
+        (λ (t : on_line h ≡ false). rw t) (cases_Bool (on_line h))
 
     pub load_unrefused : net_write_number net k 3 v ≡ 0
     load_unrefused = sym (write_asked net k s l 3 v (regs_at net k) refl 0 (sym (load_taken (regs_at net k) v)) false (sym single) 0 (sym (refuse_passed 0 DUPLICATE false refl)))

@@ -14,7 +14,8 @@ use Rattle.registers.specs.Fit.{on_line}
 use Rattle.registers.specs.Registers.{hardware_reset}
 use Rattle.registers.specs.Layout.{at_diagnostic, read_changes}
 use Rattle.registers.specs.Events.{burst}
-use Rattle.bits.proofs.Words.Bools.{cases, or_left, or_right, pick_of}
+use Rattle.std.proofs.lemmas.Bool.{cases_Bool}
+use Rattle.bits.proofs.Words.Bools.{or_left, or_right, pick_of}
 use Rattle.registers.proofs.Values.SameCard.{reset_off}
 use Rattle.registers.proofs.Values.Keeps.{keeps_burst}
 use Rattle.card.specs.Row.{Whole, regs_of}
@@ -136,8 +137,8 @@ module _ (net : List ℕ) (k : ℕ) where
         others = λ j h n. b.0.others j n h;
         row = b.1;
       })
-      (λ (l : ltb k (rows net) ≡ false). none (λ t. omega (arith, t.1, ltb-false k (rows net) l))) (cases (ltb k (rows net))))
-      (λ (s : shape net ≡ false). none (λ t. false≢true (sym s ∙ t.0))) (cases (shape net))
+      (λ (l : ltb k (rows net) ≡ false). none (λ t. omega (arith, t.1, ltb-false k (rows net) l))) (cases_Bool (ltb k (rows net))))
+      (λ (s : shape net ≡ false). none (λ t. false≢true (sym s ∙ t.0))) (cases_Bool (shape net))
 
   -- ---- the calls
   pub read_only : (g : ℕ) → OnlyRow net (net_after_read net k g) k (among (read_changes (regs_at net k) g))

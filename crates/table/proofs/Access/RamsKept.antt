@@ -9,7 +9,8 @@ use native.Mathlib.Omega.{arith}
 use lib.Dec.{eqb}
 use lib.ListN.{length}
 use borrow.Author.Tests.{eqb-true, eqb-false}
-use Rattle.bits.proofs.Words.Bools.{cases, pick_of}
+use Rattle.std.proofs.lemmas.Bool.{cases_Bool}
+use Rattle.bits.proofs.Words.Bools.{pick_of}
 use Rattle.registers.specs.declared.regs.Regs.{Regs}
 use Rattle.registers.specs.Registers.{hardware_reset}
 use Rattle.registers.specs.Events.{burst}
@@ -41,7 +42,7 @@ module _ (net : List ℕ) (w : row_start net (rows net) ≤ length net) (b : Ram
   rams_set r e h j m =
       let lj : j < rows net = omega (arith, frame_rows (set_row_frame net (rows net) w k l r e)) in
       ⊎_elim (λ (t : eqb j k ≡ true). rw (eqb-true j k t, row_at_set_row net (rows net) w k l r e) h)
-      (λ (t : eqb j k ≡ false). rw (row_at_set_row_other net (rows net) w k l r e j lj (eqb-false j k t)) (b j lj)) (cases (eqb j k))
+      (λ (t : eqb j k ≡ false). rw (row_at_set_row_other net (rows net) w k l r e j lj (eqb-false j k t)) (b j lj)) (cases_Bool (eqb j k))
 
   rams_burst : Rams (turned (set_row net k (on_regs burst (row_at net k))) LOST 0)
   rams_burst =

@@ -8,7 +8,7 @@ use Prim.Native.Nat.{ℕ}
 use lib.Dec.{eqb}
 use borrow.Author.Tests.{ne_eqb, eqb-true}
 use Rattle.card.specs.Packets.{data_refusals, data_number}
-use Rattle.bits.proofs.Words.Bools.{cases}
+use Rattle.std.proofs.lemmas.Bool.{cases_Bool}
 use Rattle.card.proofs.Pages.Refused as card
 use Rattle.table.specs.Rows.{row_at}
 use Rattle.table.specs.Calls.{place_number, net_reading, net_after_read, net_write_number, net_after_write, net_after_reset, timer_number, net_after_timer, net_interrupt, net_data, net_data_number, fresh_number, net_after_fresh}
@@ -44,7 +44,7 @@ module _ (net : List ℕ) (k : ℕ) where
   unfolding net_data net_data_number
   data_refused p n =
       ⊎_elim (λ (t : eqb (place_number net k) 0 ≡ true). rw t (card.data_refused (row_at net k) p (λ z. n (data_done p (eqb-true _ _ t) z))))
-      (λ (t : eqb (place_number net k) 0 ≡ false). rw t) (cases (eqb (place_number net k) 0))
+      (λ (t : eqb (place_number net k) 0 ≡ false). rw t) (cases_Bool (eqb (place_number net k) 0))
 
   pub fresh_refused : (fresh_number net k ≡ 0 → ⊥) → net_after_fresh net k ≡ net
   unfolding net_after_fresh

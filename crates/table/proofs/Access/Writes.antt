@@ -17,7 +17,8 @@ use Rattle.registers.specs.Registers.{write_fetches, after_write}
 use Rattle.registers.specs.Refusals.{write_number}
 use Rattle.card.specs.Access.{row_after_write}
 use Rattle.registers.specs.Events.{burst}
-use Rattle.bits.proofs.Words.Bools.{cases, and_false}
+use Rattle.std.proofs.lemmas.Bool.{cases_Bool}
+use Rattle.std.proofs.Math.Bool.{and-false}
 use Rattle.card.proofs.Rows.Sizes.{SameSize, whole_registers}
 use Rattle.card.proofs.Rows.Bytes.{regs_put, size_put}
 use Rattle.card.proofs.Rows.WellFormed.{size_write}
@@ -53,8 +54,8 @@ node_of_none net i x n e = seek_not (other net i x) n each
   where
     each : (j : ℕ) → j < n → other net i x j ≡ false
     each j l =
-        ⊎_elim (λ (t : eqb j x ≡ true). rw t (and_false (is_node net i j)))
-        (λ (t : eqb j x ≡ false). rw (e j l (eqb-false j x t))) (cases (eqb j x))
+        ⊎_elim (λ (t : eqb j x ≡ true). rw t (and-false (is_node net i j)))
+        (λ (t : eqb j x ≡ false). rw (e j l (eqb-false j x t))) (cases_Bool (eqb j x))
 
 -- `net` is what writes to row k of `old` have left, with the registers g; the next does not fetch
 module _ (old net : List ℕ) (k : ℕ) (g : Regs) (w : Written old net k g) (l : k < rows old) (off : on_line g ≡ false) (r v : ℕ)

@@ -8,7 +8,8 @@ use Prim.Native.Nat.{ℕ, zero, suc, ◌≤◌, ◌<◌}
 use native.Mathlib.Omega.{arith}
 use lib.Dec.{ltb}
 use borrow.Author.Tests.{ltb-true, ltb-false}
-use Rattle.bits.proofs.Words.Bools.{cases, and_left, and_right, pick_of}
+use Rattle.std.proofs.lemmas.Bool.{cases_Bool}
+use Rattle.bits.proofs.Words.Bools.{and_left, and_right, pick_of}
 use Rattle.table.specs.Network.{regs_at, on_line_at, top_id}
 
 pub top_above : (net : List ℕ) (n j : ℕ) → j < n → on_line_at net j ≡ true → (regs_at net j).id ≤ top_id net n
@@ -21,7 +22,7 @@ top_above net (suc k) j l o =
     (λ e. omega (arith, m, ltb-true (top_id net k) (regs_at net k).id (and_right (on_line_at net k) (ltb (top_id net k) (regs_at net k).id) e))) (λ _. m))
     (λ (t : ltb j k ≡ false). let e : j ≡ k = omega (arith, ltb-false j k t, l) in
     rw (rw e at o) (rw e (pick_of (λ (x : ℕ). (regs_at net k).id ≤ x) (ltb (top_id net k) (regs_at net k).id) (λ _. omega arith)
-    (λ u. omega (arith, ltb-false (top_id net k) (regs_at net k).id u))))) (cases (ltb j k))
+    (λ u. omega (arith, ltb-false (top_id net k) (regs_at net k).id u))))) (cases_Bool (ltb j k))
 
 pub top_least : (net : List ℕ) (n m : ℕ) → ((j : ℕ) → j < n → on_line_at net j ≡ true → (regs_at net j).id ≤ m) → top_id net n ≤ m
 unfolding top_id

@@ -11,7 +11,8 @@ use borrow.Author.Tests.{eqb-true, eqb-false, eq-eqb, ne_eqb, ltb-true, ltb-fals
 use Rattle.registers.specs.declared.regs.Regs.{Regs}
 use Rattle.bits.specs.Words.{pick}
 use Rattle.registers.specs.Fit.{on_line}
-use Rattle.bits.proofs.Words.Bools.{and_left, and_right, and_true, pick_of}
+use Rattle.std.proofs.Math.Bool.{and-true}
+use Rattle.bits.proofs.Words.Bools.{and_left, and_right, pick_of}
 use Rattle.registers.proofs.Values.SameCard.{on_line_id}
 use Rattle.std.proofs.Common.{Option}
 use Rattle.std.specs.Option.{is_some}
@@ -84,7 +85,7 @@ module _ (net : List ℕ) (i x n : ℕ) where
   unfolding node_of
   node_of_fails e j l ne =
       let t = seek_least (other net i x) n j (rw e l) in
-      rw (ne_eqb j x ne, and_true) at t
+      rw (ne_eqb j x ne, and-true) at t
 
 -- row k is not on line with the ID of an on-line row before it
 abbrev pub free : List ℕ → ℕ → Bool
@@ -101,7 +102,7 @@ module _ (net : List ℕ) (k : ℕ) (g : Regs) (b : Bool) (p : g ≡ regs_at net
 
     sought : node_of net g.id k k ≡ seek (is_node net (regs_at net k).id) k
     unfolding node_of
-    sought = seek_same (other net g.id k) (is_node net (regs_at net k).id) k (λ m l. rw (ne_eqb m k (λ x. omega arith), and_true, p))
+    sought = seek_same (other net g.id k) (is_node net (regs_at net k).id) k (λ m l. rw (ne_eqb m k (λ x. omega arith), and-true, p))
 
     told : is_some o ≡ ltb (node_of net g.id k k) k
     told = rw s (below_some k (node_of net g.id k k))

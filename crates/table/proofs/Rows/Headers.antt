@@ -12,7 +12,9 @@ use lib.Seq.{length-take-le, get_or-take, get_or-drop, ext_get_or}
 use borrow.Author.Tests.{eqb-true, eqb-false, eq-eqb, ne_eqb, ltb-true, lt-ltb, leb-true, le-leb}
 use Rattle.std.specs.List.{starts_with}
 use Rattle.card.specs.Row.{zeros}
-use Rattle.bits.proofs.Words.Bools.{holds, cases, and_true}
+use Rattle.std.proofs.lemmas.Bool.{cases_Bool}
+use Rattle.std.proofs.Math.Bool.{and-true}
+use Rattle.bits.proofs.Words.Bools.{holds}
 use Rattle.table.specs.Rows.{header_bytes, row_start, rows_end}
 use Rattle.table.specs.Network.{mark, row_limit, rows, phase, header_fits}
 use Rattle.table.proofs.Rows.Starts.{start_least}
@@ -77,12 +79,12 @@ header_kept net new t l e p =
 
 -- the mark, and the header, as the code asks them
 same_back : (x y : ℕ) → eqb x y ≡ eqb y x
-same_back x y = ⊎_elim (λ t. t ∙ sym (eq-eqb y x (sym (eqb-true x y t)))) (λ f. f ∙ sym (ne_eqb y x (λ e. eqb-false x y f (sym e)))) (cases (eqb x y))
+same_back x y = ⊎_elim (λ t. t ∙ sym (eq-eqb y x (sym (eqb-true x y t)))) (λ f. f ∙ sym (ne_eqb y x (λ e. eqb-false x y f (sym e)))) (cases_Bool (eqb x y))
 
 pub mark_asked : (net : List ℕ) → header_bytes ≤ length net → starts_with eqb net mark ≡ (eqb (get_or net 0 0) (get_or mark 0 0) && eqb (get_or net 1 0) (get_or mark 1 0))
 mark_asked [] h = absurd (omega (arith, h))
 mark_asked (x ∷ []) h = absurd (omega (arith, h))
-mark_asked (x ∷ y ∷ l) h = rw (same_back 0x41 x, same_back 0x4e y, and_true)
+mark_asked (x ∷ y ∷ l) h = rw (same_back 0x41 x, same_back 0x4e y, and-true)
 
 pub header_asked : (net : List ℕ) → header_bytes ≤ length net → (n : ℕ) → n ≡ rows net → (p : ℕ) → p ≡ phase net → (m : Bool) → m ≡ starts_with eqb net mark
     → (z : Bool) → z ≡ zeros (take 10 (drop 6 net)) → (a : Bool) → a ≡ rows_end net n

@@ -13,7 +13,8 @@ use Rattle.std.proofs.lemmas.Iterator.Consumers.{YieldsList-from_shown}
 use Rattle.std.specs.List.{list_all}
 use Rattle.std.proofs.Common.{Some, None}
 use Rattle.std.specs.Borrow.{Bor}
-use Rattle.bits.proofs.Words.Bools.{cases, and_left, and_right}
+use Rattle.std.proofs.lemmas.Bool.{cases_Bool}
+use Rattle.bits.proofs.Words.Bools.{and_left, and_right}
 use Rattle.table.specs.Folds.{every}
 use Rattle.table.specs.Rows.{row_at}
 use Rattle.table.specs.Walk.{Walk, walk, next_row}
@@ -57,8 +58,8 @@ module _ (net : List ℕ) (f : List ℕ → Bool) where
   all_every n =
       ⊎_elim (λ t. t ∙ sym (every_of _ n (λ k l. all_each n 0 t k (omega arith) (omega (arith, l)))))
       (λ u. ⊎_elim (λ t. absurd (clash (each_all n 0 (λ j a b. every_at _ n j t (omega (arith, b)))) u)) (λ v. u ∙ sym v)
-      (cases (every (λ k. f (row_at net k)) n)))
-      (cases (list_all f (rows_from net 0 n)))
+      (cases_Bool (every (λ k. f (row_at net k)) n)))
+      (cases_Bool (list_all f (rows_from net 0 n)))
 
 -- ---- a loop over the rows: w is the walk before row k of n
 pub record Before (net : List ℕ) (n k : ℕ) (w : Walk) : Type 0 where

@@ -9,7 +9,7 @@ use native.Mathlib.Omega.{arith}
 use lib.Dec.{ltb}
 use lib.ListN.{length, get_or-eq_default}
 use borrow.Author.Tests.{ltb-true, ltb-false}
-use Rattle.bits.proofs.Words.Bools.{cases}
+use Rattle.std.proofs.lemmas.Bool.{cases_Bool}
 use Rattle.card.proofs.Pages.Packets.{Ram}
 use Rattle.card.proofs.Rows.Rams.{Small, id_byte}
 use Rattle.table.specs.Rows.{row_start, row_at}
@@ -27,7 +27,7 @@ bytes_row net s b k l i =
     let e = length (row_at net k) in
     ⊎_elim (λ (t : ltb i e ≡ true). rw (get_or_row_at net (rows net) (shape_room net s) k l i (ltb-true i e t)) (b (row_start net k + i)))
     (λ (t : ltb i e ≡ false). rw (get_or-eq_default (row_at net k) 0 {n = i} (ltb-false i e t)) (omega arith))
-    (cases (ltb i e))
+    (cases_Bool (ltb i e))
 
 -- each row's RAM is of bytes, and its ID is a byte
 abbrev pub Rams : List ℕ → Type 0

@@ -11,7 +11,7 @@ use lib.ListN.{get_or}
 use borrow.Author.Tests.{eqb-true, eqb-false}
 use Rattle.card.specs.Row.{regs_of, well_formed}
 use Rattle.registers.specs.Fit.{on_line}
-use Rattle.bits.proofs.Words.Bools.{cases}
+use Rattle.std.proofs.lemmas.Bool.{cases_Bool}
 use Rattle.card.proofs.Rows.Sizes.{SameSize}
 use Rattle.table.specs.Rows.{header_bytes, row_at, set_row}
 use Rattle.table.specs.Network.{rows, phase, holder, LOST, turned, regs_at, on_line_at, is_node, shape}
@@ -72,7 +72,7 @@ became_put net k r s l e q same =
       row = λ j lj. ⊎_elim
           (λ (t : eqb j k ≡ true). rw (eqb-true j k t, row_at_set_row net (rows net) b k l r e) q)
           (λ (t : eqb j k ≡ false). rw (row_at_set_row_other net (rows net) b k l r e j lj (eqb-false j k t)) (same j lj))
-          (cases (eqb j k));
+          (cases_Bool (eqb j k));
     }
 
 pub shape_put : (net : List ℕ) (k : ℕ) (r : List ℕ) → shape net ≡ true → k < rows net → SameSize (row_at net k) r → Kept (row_at net k) r
@@ -100,21 +100,21 @@ shape_change net k r s l e w d a =
     shape_of (set_row net k r)
     (header_kept net (set_row net k r) (shape_header net s) (frame_ends f (shape_ends net s)) (λ x u v z. same x u) (omega (arith, shape_phase net s)))
     (λ j m. let lj : j < rows net = omega arith in
-    ⊎_elim (λ (t : eqb j k ≡ true). rw (eqb-true j k t, here) w) (λ (t : eqb j k ≡ false). rw (there j lj t) (shape_row net s j lj)) (cases (eqb j k)))
+    ⊎_elim (λ (t : eqb j k ≡ true). rw (eqb-true j k t, here) w) (λ (t : eqb j k ≡ false). rw (there j lj t) (shape_row net s j lj)) (cases_Bool (eqb j k)))
     (λ i j mi mj p q x. let li : i < rows net = omega arith in
     let lj : j < rows net = omega arith in
     ⊎_elim
     (λ (t : eqb i k ≡ true). ⊎_elim (λ (u : eqb j k ≡ true). eqb-true i k t ∙ sym (eqb-true j k u))
-    (λ (u : eqb j k ≡ false). absurd (alone j lj u (rw (eqb-true i k t) at p) q (rw (eqb-true i k t) at (sym x)))) (cases (eqb j k)))
+    (λ (u : eqb j k ≡ false). absurd (alone j lj u (rw (eqb-true i k t) at p) q (rw (eqb-true i k t) at (sym x)))) (cases_Bool (eqb j k)))
     (λ (t : eqb i k ≡ false). ⊎_elim (λ (u : eqb j k ≡ true). absurd (alone i li t (rw (eqb-true j k u) at q) p (rw (eqb-true j k u) at x)))
     (λ (u : eqb j k ≡ false). shape_ids net s i j li lj (rw (there i li t) at p) (rw (there j lj u) at q) (rw (there i li t, there j lj u) at x))
-    (cases (eqb j k))) (cases (eqb i k)))
+    (cases_Bool (eqb j k))) (cases_Bool (eqb i k)))
     (λ p. ho ∙ shape_lost net s (sym ph ∙ p))
     (λ p. let h = shape_holder net s (λ z. p (ph ∙ z)) in (
       omega arith,
       ap (on_line_at (set_row net k r)) ho ∙ ⊎_elim
           (λ (t : eqb (holder net) k ≡ true). rw (eqb-true (holder net) k t, here) (a (λ z. p (ph ∙ z)) (eqb-true (holder net) k t)))
-          (λ (t : eqb (holder net) k ≡ false). rw (there (holder net) h.0 t) h.1) (cases (eqb (holder net) k)),
+          (λ (t : eqb (holder net) k ≡ false). rw (there (holder net) h.0 t) h.1) (cases_Bool (eqb (holder net) k)),
     ))
 
 -- another phase and holder: no holder in LOST, an on-line row outside it

@@ -10,7 +10,8 @@ use lib.Dec.{eqb, leb, ltb}
 use lib.ListN.{length}
 use borrow.Author.Tests.{eqb-true, eqb-false, eq-eqb, ne_eqb, ltb-true, ltb-false, lt-ltb, le-leb, not-true}
 use Rattle.card.specs.Row.{Whole, well_formed}
-use Rattle.bits.proofs.Words.Bools.{cases, and_left, and_right, and_five}
+use Rattle.std.proofs.lemmas.Bool.{cases_Bool}
+use Rattle.bits.proofs.Words.Bools.{and_left, and_right, and_five}
 use Rattle.table.specs.Folds.{some}
 use Rattle.table.specs.Rows.{header_bytes, row_start, row_at}
 use Rattle.table.specs.Network.{row_limit, rows, phase, holder, LOST, regs_at, on_line_at, is_node, header_fits, rows_fit, ids_differ, holder_fits, shape}
@@ -37,7 +38,7 @@ pub ids_differ_lem : (net : List ℕ) (n : ℕ) → ids_differ net n ≡ true �
 ids_differ_lem net n t j k lj lk p q e =
     ⊎_elim (λ b. absurd (ids_below net n t j k (ltb-true _ _ b) lk p q e))
     (λ b. ⊎_elim (λ a. absurd (ids_below net n t k j (ltb-true _ _ a) lj q p (sym e)))
-    (λ a. omega (arith, ltb-false j k b, ltb-false k j a)) (cases (ltb k j))) (cases (ltb j k))
+    (λ a. omega (arith, ltb-false j k b, ltb-false k j a)) (cases_Bool (ltb k j))) (cases_Bool (ltb j k))
 
 ids_of : (net : List ℕ) (n : ℕ) → Differ net n → ids_differ net n ≡ true
 unfolding ids_differ is_node
@@ -48,11 +49,11 @@ ids_of net n d = every_of (free net) n each
         ⊎_elim
         (λ p. ⊎_elim (λ e. absurd (let z = d j k (omega arith) l p q (eqb-true _ _ e) in omega arith))
         (λ (e : eqb (regs_at net j).id (regs_at net k).id ≡ false). simp (p, e))
-        (cases (eqb (regs_at net j).id (regs_at net k).id)))
-        (λ p. rw p) (cases (on_line_at net j))
+        (cases_Bool (eqb (regs_at net j).id (regs_at net k).id)))
+        (λ p. rw p) (cases_Bool (on_line_at net j))
 
     each : (k : ℕ) → k < n → free net k ≡ true
-    each k l = ⊎_elim (λ (q : on_line_at net k ≡ true). rw (q, some_not (is_node net (regs_at net k).id) k (apart k l q))) (λ q. rw q) (cases (on_line_at net k))
+    each k l = ⊎_elim (λ (q : on_line_at net k ≡ true). rw (q, some_not (is_node net (regs_at net k).id) k (apart k l q))) (λ q. rw q) (cases_Bool (on_line_at net k))
 
 -- ---- the holder
 abbrev pub OnLineRow : List ℕ → ℕ → Type 0
@@ -62,7 +63,7 @@ holder_of : (net : List ℕ) → (phase net ≡ LOST → holder net ≡ 0) → (
 unfolding holder_fits
 holder_of net a b =
     ⊎_elim (λ (t : eqb (phase net) LOST ≡ true). simp (t, eq-eqb _ _ (a (eqb-true _ _ t))))
-    (λ (t : eqb (phase net) LOST ≡ false). let h = b (eqb-false _ _ t) in simp (t, lt-ltb _ _ h.0, h.1)) (cases (eqb (phase net) LOST))
+    (λ (t : eqb (phase net) LOST ≡ false). let h = b (eqb-false _ _ t) in simp (t, lt-ltb _ _ h.0, h.1)) (cases_Bool (eqb (phase net) LOST))
 
 -- ---- the rows
 pub fits_row : (net : List ℕ) (n : ℕ) → rows_fit net n ≡ true → (k : ℕ) → k < n → well_formed (row_at net k) ≡ true

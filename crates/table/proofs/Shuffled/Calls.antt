@@ -9,7 +9,8 @@ use native.Mathlib.Omega.{arith}
 use lib.Dec.{eqb}
 use lib.ListN.{length}
 use borrow.Author.Tests.{eqb-true}
-use Rattle.bits.proofs.Words.Bools.{cases, pick_each}
+use Rattle.std.proofs.lemmas.Bool.{cases_Bool}
+use Rattle.bits.proofs.Words.Bools.{pick_each}
 use Rattle.registers.specs.Registers.{hardware_reset}
 use Rattle.registers.specs.Events.{burst}
 use Rattle.card.specs.Row.{regs_of}
@@ -41,7 +42,7 @@ module _ {n : ℕ} (q : Shuffle n) where
     holder_shuffled : is_holder (shuffled q net) (q.to k) ≡ is_holder net k
     holder_shuffled =
         rw (shuffled_phase q net ends, shuffled_holder q net ends)
-        (⊎_elim (λ (t : eqb (phase net) LOST ≡ true). rw t) (λ (t : eqb (phase net) LOST ≡ false). rw t (to_same q (holder net) k)) (cases (eqb (phase net) LOST)))
+        (⊎_elim (λ (t : eqb (phase net) LOST ≡ true). rw t) (λ (t : eqb (phase net) LOST ≡ false). rw t (to_same q (holder net) k)) (cases_Bool (eqb (phase net) LOST)))
 
     burst_shuffled : Is (turned (set_row net k (on_regs burst (row_at net k))) LOST 0) (turned (set_row (shuffled q net) (q.to k) (on_regs burst (row_at net k))) LOST 0)
     burst_shuffled =

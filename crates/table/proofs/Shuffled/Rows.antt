@@ -11,7 +11,7 @@ use lib.ListN.{length, get_or, drop_of_length-le}
 use lib.Seq.{take-nil, get_or-take}
 use borrow.Author.Tests.{eqb-true, eqb-false, ltb-true, ltb-false}
 use Rattle.bits.specs.Words.{pick}
-use Rattle.bits.proofs.Words.Bools.{cases}
+use Rattle.std.proofs.lemmas.Bool.{cases_Bool}
 use Rattle.card.specs.Row.{row_size, Whole}
 use Rattle.card.proofs.Rows.Sizes.{SameSize, size_whole}
 use Rattle.table.specs.Rows.{header_bytes, row_start, row_at, set_row, with_rows, each_row}
@@ -65,7 +65,7 @@ module _ {n : ℕ} (q : Shuffle n) (net : List ℕ) (ends : length net ≡ row_s
       row_at_turned moved _ _ (q.to k)
       ∙ ⊎_elim (λ (t : ltb k n ≡ true). moved_at (q.to k) (to_within q k (ltb-true k n t)) ∙ ap (row_at net) (q.undone k))
       (λ (t : ltb k n ≡ false). let l = ltb-false k n t in
-      ap (row_at moved) (q.past k l) ∙ row_past moved n k moved_ends l ∙ sym (row_past net n k ends l)) (cases (ltb k n))
+      ap (row_at moved) (q.past k l) ∙ row_past moved n k moved_ends l ∙ sym (row_past net n k ends l)) (cases_Bool (ltb k n))
 
   pub shuffled_from : (j : ℕ) → row_at (shuffled q net) j ≡ row_at net (q.from j)
   shuffled_from j = ap (row_at (shuffled q net)) (sym (q.redone j)) ∙ shuffled_at (q.from j)
@@ -107,7 +107,7 @@ module _ {n : ℕ} (q : Shuffle n) (net : List ℕ) (ends : length net ≡ row_s
             rw (to_from q j k)
             (⊎_elim (λ (t : eqb (q.from j) k ≡ true). rw (t, eqb-true (q.from j) k t) (sym (row_at_set_row net n within k l r a)))
             (λ (t : eqb (q.from j) k ≡ false). rw t (moved_at j c ∙ sym (row_at_set_row_other net n within k l r a (q.from j) (from_within q j c) (eqb-false _ _ t))))
-            (cases (eqb (q.from j) k)))
+            (cases_Bool (eqb (q.from j) k)))
 
     pub shuffled_set : set_row (shuffled q net) (q.to k) r ≡ shuffled q (set_row net k r)
     unfolding shuffled

@@ -7,7 +7,7 @@ use Prim.Native.Nat.{ℕ, ◌<◌}
 use native.Mathlib.Omega.{arith}
 use lib.Dec.{ltb}
 use borrow.Author.Tests.{ltb-true, ltb-false}
-use Rattle.bits.proofs.Words.Bools.{cases}
+use Rattle.std.proofs.lemmas.Bool.{cases_Bool}
 use Rattle.table.specs.Folds.{some, seek}
 use Rattle.table.specs.Shuffle.{Shuffle}
 use Rattle.table.proofs.Folds.{clash, some_fails, some_not, seek_at_most, seek_found, seek_least, seek_is, seek_not}
@@ -22,8 +22,8 @@ module _ {n : ℕ} (q : Shuffle n) (f : ℕ → Bool) where
       ⊎_elim
       (λ (t : some f n ≡ true). ⊎_elim (λ u. u ∙ sym t)
       (λ (u : some there n ≡ false). absurd (clash t (some_not f n (λ k l. ap f (sym (q.undone k)) ∙ some_fails there n (q.to k) u (to_within q k l)))))
-      (cases (some there n)))
-      (λ (t : some f n ≡ false). some_not there n (λ j l. some_fails f n (q.from j) t (from_within q j l)) ∙ sym t) (cases (some f n))
+      (cases_Bool (some there n)))
+      (λ (t : some f n ≡ false). some_not there n (λ j l. some_fails f n (q.from j) t (from_within q j l)) ∙ sym t) (cases_Bool (some f n))
 
   pub seek_shuffled : ((i j : ℕ) → i < n → j < n → f i ≡ true → f j ≡ true → i ≡ j) → seek there n ≡ q.to (seek f n)
   seek_shuffled one =
@@ -34,7 +34,7 @@ module _ {n : ℕ} (q : Shuffle n) (f : ℕ → Bool) where
       let z = to_within q k l in
       seek_is there n (q.to k) z (ap f (q.undone k) ∙ y)
       (λ j b. ⊎_elim (λ (u : there j ≡ true). let e = one (q.from j) k (from_within q j (omega arith)) l u y in
-      absurd (omega (arith, sym (q.redone j) ∙ ap q.to e))) (λ u. u) (cases (there j))))
+      absurd (omega (arith, sym (q.redone j) ∙ ap q.to e))) (λ u. u) (cases_Bool (there j))))
       (λ (t : ltb k n ≡ false). let e : k ≡ n = omega (arith, ltb-false k n t, seek_at_most f n) in
       seek_not there n (λ j l. seek_least f n (q.from j) (omega (arith, from_within q j l)))
-      ∙ sym (ap q.to e ∙ q.past n (omega arith))) (cases (ltb k n))
+      ∙ sym (ap q.to e ∙ q.past n (omega arith))) (cases_Bool (ltb k n))
