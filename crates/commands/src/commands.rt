@@ -6,6 +6,7 @@ use bits::flags::BROADCASTS;
 use bits::way::Way;
 
 // What a byte written to register 1 asks of the card. Pages are 0 to 3.
+// Kept: the bytes of Enable and LongPackets are as a row has them (13, 14 and 15; Commands.command_of).
 #[derive(Clone, Copy, Debug, PartialEq, Eq)]
 pub enum Command {
     // Disable Transmitter, Disable Receiver.

@@ -9,7 +9,7 @@ use bits::way::Way;
 pub(crate) const KEPT: u8 = 1 << 7;
 
 // Bytes 13, 16 and 18 of a row, or 14, 17 and 19: the oldest that waits, the second, and how many ends are not cleared.
-#[derive(Clone, Copy, Debug, PartialEq, Eq)]
+#[derive(Clone, Copy, Debug, Default, PartialEq, Eq)]
 pub struct Queue {
     pub oldest: u8,
     pub second: u8,
@@ -69,11 +69,7 @@ impl Queue {
     pub fn none() -> Queue
         ensures { result ≡ none }
     {
-        Queue {
-            oldest: 0,
-            second: 0,
-            done: 0,
-        }
+        Queue::default()
     }
 
     // A second waits.
@@ -102,6 +98,7 @@ impl Queue {
     }
 }
 
+// Kept: `way` and `chaining` come apart, as Queues.full, enabled, completed, ended and fit take them (OfQueues).
 impl Side {
     // One waits.
     pub fn waiting(self, way: Way) -> bool
@@ -215,7 +212,7 @@ impl Side {
     {
         if self.queue.uncleared() {
             self.status = shows(way, self.queue.done & KEPT != 0, self.status);
-            self.queue.done = if self.queue.done & 2 != 0 { 1 } else { 0 };
+            self.queue.done = u8::from(self.queue.done & 2 != 0);
         }
         self
     }

@@ -22,8 +22,8 @@ fn counted(way: Way, done: u8) -> bool
     ensures { result ≡ counted way done }
 {
     match way {
-        Way::Transmit => matches!(done, 0 | 1 | 2) | (done == KEPT | 2),
-        Way::Receive => matches!(done, 0 | 1 | 2),
+        Way::Transmit => matches!(done, 0..=2) | (done == KEPT | 2),
+        Way::Receive => matches!(done, 0..=2),
     }
 }
 

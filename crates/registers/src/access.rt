@@ -3,7 +3,7 @@
 ghost use Rattle.std.specs.Prelude.{◌≡◌};
 ghost use Rattle.registers.specs.Registers.{sub, pointer, stepped, read_fetches, write_fetches, fetched, seventh, shown, read_value, after_read, changes_chaining, rechained, configured, commanded, writes_id, seventh_written, after_write};
 
-use crate::regs::{AFTER_RESET, Later, Regs};
+use crate::regs::{AFTER_RESET, Regs};
 use bits::choice::choose;
 use bits::flags::{
     AUTO_INC, CCHEN, EXCNAK, POR, RDDATA, RECON, RESET, RI, SHOWN_RI, SHOWN_TA, TA, TMA, TRI, TTA,
@@ -16,7 +16,7 @@ impl Regs {
     pub fn pointer(self) -> usize
         ensures { result ≡ pointer self }
     {
-        u16::from_be_bytes([self.high % 4, self.low]) as usize
+        usize::from(u16::from_be_bytes([self.high % 4, self.low]))
     }
 
     // The pointer after an access of register 4.
@@ -27,12 +27,8 @@ impl Regs {
         if self.mode & AUTO_INC == 0 {
             return self;
         }
-        let risen = (self.pointer() + 1) % 1024;
-        Regs {
-            high: (risen / 256) as u8,
-            low: (risen % 256) as u8,
-            ..self
-        }
+        let [high, low] = (((self.pointer() + 1) % 1024) as u16).to_be_bytes();
+        Regs { high, low, ..self }
     }
 
     // C-13: "Only a pointer load or an incremented read fetches", a write of 3 or a read of 4 with AUTO-INC.
@@ -100,7 +96,8 @@ impl Regs {
     }
 
     // What a read of a register gives.
-    // Kept: a register is asked by its address in the data sheet (000, "Registers"), which is what every caller has.
+    // Kept: a register is asked by its address in the data sheet (000, "Registers"), which is what every caller has:
+    // here, below and in refusals.rt.
     #[tactic(auto, unfolding(crate::specs::Registers::read_value))]
     pub fn read_value(self, register: usize) -> u8
         ensures { result ≡ read_value self register }
@@ -170,11 +167,7 @@ impl Regs {
             transmit: Queue::none(),
             receive: Queue::none(),
             long: 0,
-            later: Later {
-                naklow: 0,
-                nakhigh: 0,
-                ..self.later
-            },
+            later: self.later.counting(0),
             ..self
         }
     }

@@ -129,6 +129,6 @@ impl Regs {
     pub fn page(self, way: Way) -> usize
         ensures { result ≡ page way self }
     {
-        (self.side(way).queue.oldest % 4) as usize
+        usize::from(self.side(way).queue.oldest % 4)
     }
 }

@@ -7,4 +7,4 @@ pub mod events;
 mod naks;
 pub mod refusals;
 pub mod regs;
-pub mod sides;
+mod sides;

@@ -20,7 +20,18 @@ impl Later {
     fn naks(self) -> usize
         ensures { result ≡ low_first self.naklow self.nakhigh }
     {
-        u16::from_le_bytes([self.naklow, self.nakhigh]) as usize
+        usize::from(u16::from_le_bytes([self.naklow, self.nakhigh]))
+    }
+
+    // A count that one byte holds.
+    pub(crate) fn counting(self, naks: u8) -> Later
+        ensures { result ≡ record { fetched = self.fetched; naklow = naks; nakhigh = 0 } }
+    {
+        Later {
+            naklow: naks,
+            nakhigh: 0,
+            ..self
+        }
     }
 }
 
@@ -33,8 +44,7 @@ impl Regs {
         if naks == NAK_LIMIT {
             self.diagnostic |= EXCNAK;
         }
-        self.later.naklow = naks;
-        self.later.nakhigh = 0;
+        self.later = self.later.counting(naks);
         self
     }
 
@@ -44,8 +54,7 @@ impl Regs {
     {
         if drop {
             self.diagnostic &= !EXCNAK;
-            self.later.naklow = 0;
-            self.later.nakhigh = 0;
+            self.later = self.later.counting(0);
         }
         self
     }

@@ -1,6 +1,7 @@
 // C-11, "Two packets queued": a card's two sides, and what changes one of them.
 ghost use Rattle.std.specs.Prelude.{◌≡◌};
 ghost use Rattle.queues.specs.Queues as queues;
+ghost use Rattle.queues.specs.declared.queues.Side.{Side};
 ghost use Rattle.registers.specs.Sides.{chaining, side_of, with_side};
 
 use crate::regs::Regs;
@@ -29,7 +30,7 @@ impl Regs {
     }
 
     // The card with a side as it has become.
-    pub(crate) fn with_side(mut self, way: Way, side: Side) -> Regs
+    fn with_side(mut self, way: Way, side: Side) -> Regs
         ensures { result ≡ with_side way side self }
     {
         self.status = side.status;
@@ -40,38 +41,43 @@ impl Regs {
         self
     }
 
+    // The card with a side as f makes it of itself.
+    fn on_side<F: FnOnce(Side) -> Side>(self, way: Way, f: F) -> Regs
+        requires { F.IsAlwaysCallable f }
+        ensures { (side : Side) × F.post f (side_of way self) side × (result ≡ with_side way side self) }
+    {
+        self.with_side(way, f(self.side(way)))
+    }
+
     pub(crate) fn enabled(self, way: Way, entry: u8) -> Regs
         ensures { result ≡ with_side way (queues.enabled way (chaining self) entry (side_of way self)) self }
     {
-        self.with_side(way, self.side(way).enabled(way, self.chaining(), entry))
+        self.on_side(way, |side| side.enabled(way, self.chaining(), entry))
     }
 
     pub(crate) fn disabled(self, way: Way) -> Regs
         ensures { result ≡ with_side way (queues.disabled way (side_of way self)) self }
     {
-        self.with_side(way, self.side(way).disabled(way))
+        self.on_side(way, |side| side.disabled(way))
     }
 
     pub(crate) fn cleared(self, way: Way) -> Regs
         ensures { result ≡ with_side way (queues.cleared way (side_of way self)) self }
     {
-        self.with_side(way, self.side(way).cleared(way))
+        self.on_side(way, |side| side.cleared(way))
     }
 
     pub(crate) fn ended(self, way: Way, acknowledged: bool) -> Regs
         ensures { result ≡ with_side way (queues.ended way (chaining self) acknowledged (side_of way self)) self }
     {
-        self.with_side(
-            way,
-            self.side(way).ended(way, self.chaining(), acknowledged),
-        )
+        self.on_side(way, |side| side.ended(way, self.chaining(), acknowledged))
     }
 
     // The cancels that were asked on this side take effect.
     pub(crate) fn relieved(self, way: Way) -> Regs
         ensures { result ≡ with_side way (queues.cancelled way (side_of way self)) self }
     {
-        self.with_side(way, self.side(way).cancelled(way))
+        self.on_side(way, |side| side.cancelled(way))
     }
 
     // BUSY: no more can wait on this side.
