@@ -116,9 +116,10 @@ pub fn well_formed(row: &[u8]) -> bool
     requires { register_bytes ≤ length row.now }
     ensures { result ≡ well_formed row.now }
 {
-    let g = load(row);
-    let spare = all_zero(&row[20..32]) & all_zero(&row[35..REGISTER_BYTES]);
-    row.starts_with(&MARK) & g.fit() & spare
+    row.starts_with(&MARK)
+        && all_zero(&row[20..32])
+        && all_zero(&row[35..REGISTER_BYTES])
+        && load(row).fit()
 }
 
 // A new row, whatever the bytes were.
@@ -156,8 +157,9 @@ pub fn read(row: &mut [u8], register: usize) -> u8
     ensures bytes { row.new ≡ row_after_read row.old register }
 {
     let g = load(row);
+    let value = g.read_value(register);
     put_accessed(row, g.read_fetches(register), g.after_read(register));
-    g.read_value(register)
+    value
 }
 
 // Register 4 writes the RAM byte at the pointer; the others write none.
