@@ -1,5 +1,5 @@
-// Document 01, "Registers": what reading and writing a register gives and leaves, register 4's pointer and, by C-13, its
-// fetched byte, the software reset and the effects of the commands.
+// Document 01, "Registers": what reading and writing a register gives and leaves, register 4's pointer and, by C-13,
+// its fetched byte, the software reset and the effects of the commands.
 ghost use Rattle.std.specs.Prelude.{◌≡◌};
 ghost use Rattle.registers.specs.Registers.{sub, pointer, stepped, read_fetches, write_fetches, fetched, seventh, shown, read_value, after_read, changes_chaining, rechained, configured, commanded, writes_id, seventh_written, after_write};
 
