@@ -10,7 +10,7 @@ use registers::regs::Regs;
 use told::refusals::Refusal;
 
 // What a page holds, and the COUNT byte of a packet: the page offset at which its data start.
-// Kept: the cases are document 01's, two with a COUNT; the definitions give the sizes of a malformed page as 0.
+// Kept: a malformed page has sizes too, as `Packets.data_bytes`, `data_at`, `head_bytes` and `page_bytes` are 0 for it.
 #[derive(Clone, Copy, Debug, PartialEq, Eq)]
 pub enum Shape {
     Malformed,
@@ -29,6 +29,7 @@ pub struct Page {
 #[derive(Clone, Copy, Debug, PartialEq, Eq)]
 pub struct Packet {
     pub shape: Shape,
+    // Kept: no heap; copied out, since its row is lent to be changed, with zeros up to 512 as `Packets.packet_at` has.
     pub bytes: [u8; 512],
 }
 
@@ -108,7 +109,8 @@ impl Shape {
     }
 }
 
-// Kept: `Whole` and `page < 4` stand at each function of a row and a page, since the public ones keep their clauses (`page_shape`, `destination`, `packet_at`, `store_packet`, `stamp`).
+// Kept: `Whole` and `page < 4` stand at each function of a row and a page, since the public ones keep their clauses
+// (`page_shape`, `destination`, `packet_at`, `store_packet`, `stamp`).
 
 // A page by its number: the one place that knows how long pages are, and which may be long.
 #[tactic(auto, using(crate::proofs::Rows::Sizes::whole_registers, crate::proofs::Rows::Sizes::whole_long), unfolding(crate::specs::Packets::page_of))]

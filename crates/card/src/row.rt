@@ -21,7 +21,8 @@ pub fn size(row: &[u8]) -> usize
     ROW_BYTES
 }
 
-// Kept: each function of a row says how long its bytes are, since the public ones keep their clauses (`load`, `store`, `well_formed`, `hardware_reset`, `read`, `write`).
+// Kept: each function of a row says how long its bytes are, since the public ones keep their clauses (`load`, `store`,
+// `well_formed`, `hardware_reset`, `read`, `write`).
 
 // A queue in a row: the bytes of the receive queue stand one behind those of the transmit queue.
 fn queue_at(row: &[u8], at: usize) -> Queue
@@ -66,7 +67,7 @@ pub fn load(row: &[u8]) -> Regs
 }
 
 // The registers are written to bytes 2 to 19 and 32 to 34; no other byte changes.
-// Kept: one store for each byte, in their order, as `Row.put_regs` has it; a queue's three bytes do not stand together.
+// Kept: a store for each byte names its place, as `Row.put_regs` does; two arrays that are copied in would hide the places.
 #[tactic(auto, unfolding(crate::specs::Row::put_regs))]
 pub fn store(row: &mut [u8], g: Regs)
     requires { register_bytes ≤ length row.old }
@@ -104,6 +105,7 @@ pub fn all_zero(s: &[u8]) -> bool
 }
 
 // Each byte becomes zero.
+// Kept: public, and called in this file alone; OfCard.fill_zero of promises holds its contract.
 pub fn fill_zero(s: &mut [u8])
     ensures { s.new ≡ replicate (length s.old) 0 }
 {
@@ -149,7 +151,7 @@ fn put_accessed(row: &mut [u8], fetches: bool, g: Regs)
     store(row, g.fetched(fetches, ram));
 }
 
-// A register of the card is read; `Regs::read_number` says whether it can be.
+// A register of the card is read; `Regs::may_read` says whether it can be.
 #[tactic(auto, using(crate::proofs::Rows::Sizes::whole_registers), unfolding(crate::specs::Access::value_read, crate::specs::Access::row_after_read))]
 pub fn read(row: &mut [u8], register: usize) -> u8
     requires { Whole row.old }
@@ -172,7 +174,7 @@ fn write_ram(row: &mut [u8], register: usize, at: usize, value: u8)
     }
 }
 
-// A register of the card is written; `Regs::write_number` says whether it can be.
+// A register of the card is written; `Regs::may_write` says whether it can be.
 #[tactic(auto, using(crate::proofs::Rows::Sizes::whole_registers, crate::proofs::Rows::Sizes::whole_long, crate::proofs::Rows::Accesses::whole_ram), unfolding(crate::specs::Access::row_after_write))]
 pub fn write(row: &mut [u8], register: usize, value: u8)
     requires { Whole row.old }

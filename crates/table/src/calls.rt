@@ -143,7 +143,7 @@ pub fn interrupt(net: &[u8], row: usize) -> Result<bool, Refusal>
 }
 
 // The data of a page of a row: that stretch of the network itself, of length 0 where the call below refuses.
-// Kept: the bytes and the refusal are two calls: docs/STATEMENTS.md has `page_data` as one that gives bytes for any network.
+// Kept: the bytes and the refusal are two calls, since docs/STATEMENTS.md has `page_data` give bytes for any network.
 #[tactic(auto, using(told::proofs::Told::Results::refused_keeps, told::proofs::Told::Results::done_goes, crate::proofs::Access::Handed::behind, told::proofs::Told::Results::is_refused, crate::proofs::Access::Placed::data_placed), unfolding(crate::specs::Calls::net_data))]
 pub fn page_data(net: &[u8], row: usize, page: usize) -> &[u8]
     ensures bytes { result.now ≡ net_data net.now row page }

@@ -1,6 +1,6 @@
 // Document 01, "The saved network": the header, a row's part, and the test SHAPE. A row starts where the one before it ends.
-// Kept: a row is a part of lent bytes, and that it stands whole in them is a `requires`, not a type's invariant:
-// docs/STATEMENTS.md names these functions with the bytes that they take.
+// Kept: the header and a row are parts of lent bytes, and that they stand in them is a `requires`, not a type's invariant:
+// each of these functions is public and named in docs/STATEMENTS.md with the bytes that it takes.
 ghost use Rattle.std.specs.Prelude.{◌≡◌, suc, ◌+◌, ◌≤◌, ◌<◌, length, take, drop};
 ghost use Rattle.places.specs.Places.{onward};
 ghost use Rattle.card.specs.Row.{register_bytes, row_size, Whole, put_regs};
@@ -11,7 +11,7 @@ ghost use Rattle.table.specs.Network.{rows, phase, holder, turned, regs_at, node
 use crate::walk::Rows;
 use registers::regs::Regs;
 
-pub const HEADER: usize = 16;
+pub(crate) const HEADER: usize = 16;
 
 pub const ROWS: usize = 60;
 
@@ -25,7 +25,7 @@ pub const TAKEN: u8 = 2;
 // The fixed bytes that a network begins with.
 pub(crate) const MARK: [u8; 2] = *b"\x41\x4e";
 
-// Kept: docs/STATEMENTS.md names it, with what it promises.
+// Kept: public; OfTable.wide of promises holds its contract.
 pub fn wide(x: u8) -> usize
     ensures { (result ≡ x) × (result < 256) }
 {
@@ -68,8 +68,9 @@ pub fn row_start(net: &[u8], k: usize) -> usize
     a
 }
 
-// Where the row ends that starts at a. Kept: who writes a row lends net[a..e] itself: a function that returns a part of a
-// slice as `&mut` was tried, and its clause on what becomes of the network gets no proof.
+// Where the row ends that starts at a.
+// Kept: who writes a row lends net[a..e] itself: a function that returns a part of a slice as `&mut` was tried, and its
+// clause on what becomes of the network gets no proof.
 pub fn row_end(net: &[u8], a: usize) -> usize
     requires { a + row_size (drop a net.now) ≤ length net.now }
     ensures { (result ≡ a + row_size (drop a net.now)) × (result ≤ length net.now) }
@@ -77,7 +78,8 @@ pub fn row_end(net: &[u8], a: usize) -> usize
     a + card::row::size(&net[a..])
 }
 
-// The row that starts at a. Whoever goes over all rows carries a along, and walks once.
+// The row that starts at a.
+// Kept: public, and called in this crate alone; OfTable.row_from of promises holds its contract.
 #[tactic(auto, using(crate::proofs::Rows::Walks::lent, places::proofs::Places::onward_part))]
 pub fn row_from(net: &[u8], a: usize) -> &[u8]
     requires { a + row_size (drop a net.now) ≤ length net.now }
@@ -142,7 +144,9 @@ pub fn node_of(net: &[u8], id: u8, except: usize, n: usize) -> Option<usize>
     None
 }
 
-// The highest ID on line. Kept: the search starts at 0, which no row on line has for its ID (docs/DECISIONS.md, 27).
+// The highest ID on line.
+// Kept: a fold from 0, as Network.top_id is one; the proof of `max` did not close. A row on line has an ID other than 0
+// (Fit.awake).
 #[tactic(auto, using(crate::proofs::Rows::Walk::turns, crate::proofs::Online::Nodes::top_id_none, crate::proofs::Online::Nodes::top_id_step))]
 pub fn top_id(net: &[u8], n: usize) -> Option<u8>
     requires { row_start net.now n ≤ length net.now }
@@ -156,8 +160,9 @@ pub fn top_id(net: &[u8], n: usize) -> Option<u8>
     if top == 0 { None } else { Some(top) }
 }
 
-// The bytes end where the first n rows end. Any bytes behind a header may be asked about, so that each row is looked for before it
-// is passed over.
+// The bytes end where the first n rows end.
+// Kept: no iterator of rows, since `Rows` wants them to lie in the bytes, and any bytes behind a header may be asked about:
+// each row is looked for before it is passed over.
 #[tactic(auto, using(crate::proofs::Rows::Starts::start_zero, crate::proofs::Rows::Walks::rest_size, crate::proofs::Rows::Walks::walk_next))]
 fn rows_end(net: &[u8], n: usize) -> bool
     requires { header_bytes ≤ length net.now }

@@ -27,6 +27,7 @@ impl<'a> Model for Rows<'a> {
 
 impl<'a> Rows<'a> {
     // The first n rows.
+    // Kept: n is given and not read from the header, since the search among the rows before one takes fewer.
     #[tactic(auto, unfolding(crate::specs::Rows::row_start))]
     pub fn first(net: &'a [u8], n: usize) -> Rows<'a>
         requires { row_start net.now n ≤ length net.now }
@@ -59,6 +60,7 @@ impl<'a> Iterator for Rows<'a> {
     }
 }
 
+// One row is lent to f.
 fn lend<F: Fn(usize, &mut [u8])>(f: &F, k: usize, row: &mut [u8])
     requires { AcceptsAt F.Fn f.now k row.old }
     ensures { ChangesAt F.Fn f.now k row.old row.new }

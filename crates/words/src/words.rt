@@ -25,6 +25,7 @@ fn part_end(text: &[u8], stop: u8, from: usize) -> usize
 }
 
 // Part k of the text, from 0, of those that `stop` separates; nothing where there is no such part.
+// Kept: public, and called in this file alone; OfWords.part of promises holds its contract.
 #[tactic(auto, using(crate::proofs::Lines::part_here, crate::proofs::Lines::from_here, crate::proofs::Lines::part_past, crate::proofs::Lines::part_missing, crate::proofs::Lines::from_past), unfolding(places::specs::Places::onward))]
 pub fn part(text: &[u8], stop: u8, k: usize) -> &[u8]
     ensures bytes { result.now ≡ part stop text.now k }
@@ -74,12 +75,14 @@ pub fn spaced(line: &[u8]) -> bool
 }
 
 // The first line of the table that has the name as its first word; nothing where none has.
+// Kept: nobody calls it now; OfWords.row of promises holds its contract.
 #[tactic(auto, using(crate::proofs::Tables::row_found, crate::proofs::Tables::row_more, crate::proofs::Tables::row_missing, crate::proofs::Tables::from_found, crate::proofs::Tables::from_more, crate::proofs::Tables::from_none), unfolding(places::specs::Places::onward, crate::specs::Words::row, crate::specs::Words::row_from, crate::specs::Words::row_of))]
 pub fn row<'a>(table: &'a [u8], name: &'a [u8]) -> &'a [u8]
     ensures bytes { result.now ≡ row table.now name.now }
     ensures place { row_from table.now name.now ≤ length table.now → result.ref_ptr ≡ onward table.entry.ref_ptr (row_from table.now name.now) }
 {
-    // Kept: as in `part`, `split` does not say where the line stands. A table has no more lines than bytes.
+    // Kept: as in `part`, `split` does not say where the line stands. A table has no more lines with a byte in them than
+    // bytes.
     let mut from = 0;
     for _ in 0..table.len() {
         let end = part_end(table, NEWLINE, from);

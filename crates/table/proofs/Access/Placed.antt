@@ -13,7 +13,7 @@ use Rattle.card.specs.Access.{value_read, row_after_read}
 use Rattle.places.specs.Places.{onward}
 use Rattle.places.proofs.Places.{onward_onward}
 use Rattle.card.specs.Packets.{data_refusals, data_number, data_from, page_data}
-use Rattle.told.proofs.Told.Smallest.{refuse_passed, told_first, told_second, told_both, none_refuses}
+use Rattle.told.proofs.Told.Smallest.{refuse_passed, told_second, told_both, none_refuses}
 use Rattle.table.specs.Calls.{Reading}
 use Rattle.table.specs.Rows.{header_bytes, row_start, row_at}
 use Rattle.table.specs.Network.{rows, shape}
@@ -59,10 +59,6 @@ module _ (net : List ℕ) (k n : ℕ) (p : n ≡ place_number net k) where
 
   -- and the call goes on with its own refusals l
   module _ (l : List Refusal) where
-    pub placed_refused : (n ≡ 0 → ⊥) → n ≡ told (place_refusals net k ++ l)
-    unfolding place_number
-    placed_refused h = p ∙ sym (told_first (place_refusals net k) l (λ z. h (p ∙ z)))
-
     pub placed_asked : n ≡ 0 → (m : ℕ) → m ≡ told l → m ≡ told (place_refusals net k ++ l)
     unfolding place_number
     placed_asked z m e = e ∙ sym (told_second (place_refusals net k) l (sym p ∙ z))
