@@ -43,6 +43,7 @@ fn happen_row(row: &mut [u8], k: usize, event: Event)
 }
 
 // The event reaches each row.
+// Kept: SHAPE is required of the bytes here, by `carry` and in step.rt, since `step_on` is public with the bytes.
 #[tactic(auto, using(crate::proofs::Rooms::rooms))]
 pub(crate) fn happen(net: &mut [u8], event: Event)
     requires { shape net.old ≡ true }

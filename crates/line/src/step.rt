@@ -13,6 +13,9 @@ use table::network::{
 };
 use told::refusals::Refusal;
 
+// The fault that leaves no token: "3 invitation destroyed".
+const DESTROYED: usize = 3;
+
 // What a step answers. A row is given by its number, from 0; `Unanswered` names the ID that was invited.
 #[derive(Clone, Copy, Debug, PartialEq, Eq)]
 pub enum Answer {
@@ -52,7 +55,7 @@ fn lost(net: &mut [u8]) -> Answer
     let Some(top) = top_id(net, n) else {
         return Answer::Quiet;
     };
-    // The highest ID on line is that of a row.
+    // The highest ID on line is that of a row; n is no row, so that none is excepted.
     let first = node_of(net, top, n, n).unwrap();
     happen(net, Event::Recovery);
     turn(net, PASS, first as u8);
@@ -67,7 +70,7 @@ fn pass(net: &mut [u8], fault: usize) -> Answer
     ensures bytes { net.new ≡ (pass_turn net.old fault).after }
 {
     let h = holder(net);
-    if fault == 3 {
+    if fault == DESTROYED {
         happen(net, Event::Message(h, false));
         turn(net, LOST, 0);
         return Answer::TokenLost;

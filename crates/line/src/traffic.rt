@@ -12,6 +12,11 @@ use bits::way::Way;
 use card::packets::Shape;
 use table::network::{node_of, put_regs, regs_at, row_at, row_end, row_start, rows};
 
+// Faults of a step: "1 packet damaged, 2 final ACK lost".
+const DAMAGED: usize = 1;
+
+const ACK_LOST: usize = 2;
+
 // What becomes of the holder's packet: where ACK or NAK answered its enquiry, the row that did; of a packet that went,
 // its shape; and of one whose ACK did not come, whether it was stored.
 #[derive(Clone, Copy, Debug, PartialEq, Eq)]
@@ -44,6 +49,7 @@ struct Sending {
     ghost page_bound: { page < 4 },
 }
 
+// Kept: the network is lent again to each method, and HasRow says of its bytes that row h is there.
 impl Sending {
     // The row's ID is put at the packet's head.
     #[tactic(auto, using(crate::proofs::Rooms::rooms, table::proofs::Rows::Walks::walked_room, table::proofs::Rows::Walks::row_sized, crate::proofs::Turn::Sends::stamped_is, crate::proofs::Turn::Sends::stamped_fits))]
@@ -67,7 +73,7 @@ impl Sending {
         self.stamp(net);
         let packet = card::packets::packet_at(row_at(net, self.h), self.page);
         happen(net, Event::Message(self.h, false));
-        if self.fault != 1 {
+        if self.fault != DAMAGED {
             SentPacket {
                 h: self.h,
                 to,
@@ -93,8 +99,8 @@ impl Sending {
         ensures bytes { net.new ≡ (packet_turn net.old self.h self.page self.fault t).after }
     {
         let shape = self.shape(net);
-        let stored = (self.fault != 1) & shape.storable(regs_at(net, t));
-        let acknowledged = stored & (self.fault != 2);
+        let stored = (self.fault != DAMAGED) & shape.storable(regs_at(net, t));
+        let acknowledged = stored & (self.fault != ACK_LOST);
         self.send(net, Some(t));
         on_row(net, self.h, |g| g.heard(false).sent(acknowledged));
         if acknowledged {

@@ -1,10 +1,10 @@
-use Rattle.std.proofs.Common.{ℕ, ◌<◌, ◌≤◌, ◌∙◌, length, arith, rules}
+use Rattle.std.proofs.Common.{ℕ, ◌<◌, ◌≤◌, length, arith, rules}
 use Rattle.card.specs.Row.{register_bytes}
 use Rattle.card.proofs.Rows.Sizes.{whole_registers}
-use Rattle.table.specs.Rows.{row_at, each_row}
-use Rattle.table.proofs.Rows.WithRows.{with_ext}
+use Rattle.table.specs.Rows.{row_at}
 use Rattle.table.proofs.Shaped.Shapes.{shape_row_whole}
 use Rattle.line.specs.Traffic.{happened}
+use Rattle.line.proofs.Change.Each.{each_is}
 use Rattle.line.proofs.Change.Made.{shape_happened, rows_happened}
 use Rattle.line.proofs.passes.happen.Goals as goal
 
@@ -14,10 +14,8 @@ each_row_mut-requires-clause-accepts c =
     search (rules, room)
 
 pub returns-clause-bytes : goal.returns-clause-bytes
-unfolding happened each_row
-returns-clause-bytes c =
-    let e = c.each_row_mut.ensures in
-    rw c.rows-n.ensures.0 at e.is ∙ with_ext _ _ _ _ (λ k l. let h = e.changed k (omega arith) in search rules)
+unfolding happened
+returns-clause-bytes c = each_is _ _ _ _ _ _ c.rows-n.ensures.0 c.each_row_mut.ensures (λ k r l h. search rules)
 
 pub returns-clause-rows : goal.returns-clause-rows
 returns-clause-rows c = rw (returns-clause-bytes c) (shape_happened _ _ c.requires, rows_happened _ _ c.requires)

@@ -1,9 +1,9 @@
-use Rattle.std.proofs.Common.{◌≡◌, true, ℕ, ◌<◌, ◌∙◌, arith, rules}
+use Rattle.std.proofs.Common.{◌≡◌, true, ℕ, ◌<◌, arith, rules}
 use Rattle.card.specs.Row.{Whole, well_formed}
-use Rattle.table.specs.Rows.{row_at, each_row}
-use Rattle.table.proofs.Rows.WithRows.{with_ext}
+use Rattle.table.specs.Rows.{row_at}
 use Rattle.table.proofs.Shaped.Shapes.{shape_row, shape_row_whole}
 use Rattle.line.specs.Traffic.{carried}
+use Rattle.line.proofs.Change.Each.{each_is}
 use Rattle.line.proofs.passes.SentPacket.carry.Goals as goal
 
 pub each_row_mut-requires-clause-accepts : goal.each_row_mut-requires-clause-accepts
@@ -13,7 +13,5 @@ each_row_mut-requires-clause-accepts c =
     search (rules, whole, fits)
 
 pub returns : goal.returns
-unfolding carried each_row
-returns c =
-    let e = c.each_row_mut.ensures in
-    rw c.rows-n.ensures.0 at e.is ∙ with_ext _ _ _ _ (λ k l. let h = e.changed k (omega arith) in search rules)
+unfolding carried
+returns c = each_is _ _ _ _ _ _ c.rows-n.ensures.0 c.each_row_mut.ensures (λ k r l h. search rules)
