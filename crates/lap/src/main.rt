@@ -11,22 +11,22 @@ ghost use Rattle.table.specs.Calls.{exact_length};
 ghost use Rattle.orders.specs.Form.{record_bytes};
 
 use desk::laps::{Taker, nobody};
+use orders::check::Bad;
 use orders::form::{RECORD, name_at, records};
 use std::io;
 use std::io::Read;
 use table::calls::{LONGEST, exact_length};
 use table::network::ROWS;
-use told::refusals::Refusal;
 
 // A byte more than the longest order, so that a longer one is seen to be too long.
 const ORDER: usize = RECORD * ROWS + 1;
 
-// The number, and the record that is named, from 1 (C-12).
-fn refuse(rt: &impl Print, refusal: Refusal, record: Option<usize>) -> io::Result<()> {
+// The number, and the record where one is named.
+fn refuse(rt: &impl Print, bad: Bad) -> io::Result<()> {
     print::text(rt, b"REFUSED")?;
-    print::number(rt, refusal.number() as usize)?;
-    if let Some(k) = record {
-        print::number(rt, k.saturating_add(1))?;
+    print::number(rt, usize::from(bad.refusal.number()))?;
+    if let Some(record) = bad.record {
+        print::number(rt, record)?;
     }
     print::text(rt, b"\n")
 }
@@ -63,7 +63,7 @@ fn answer(rt: &impl Print, err: &impl Print, order: &[u8], net: &mut [u8]) -> io
     let n = records(order);
     let lent = &mut net[0..exact_length(n)];
     if let Err(bad) = desk::loading::load(order, lent) {
-        refuse(rt, bad.refusal, bad.record)?;
+        refuse(rt, bad)?;
         return clerk::unfit(err, order, bad);
     }
     let mut list = nobody();
@@ -71,7 +71,7 @@ fn answer(rt: &impl Print, err: &impl Print, order: &[u8], net: &mut [u8]) -> io
         Ok(total) => takers(rt, order, total, &list[0..n]),
         Err(refusal) => {
             // An order that was loaded is refused for one record alone, since the list has room (`TheLoading.lap`).
-            refuse(rt, refusal, None)?;
+            refuse(rt, Bad::from(refusal))?;
             clerk::alone(err)
         }
     }

@@ -6,7 +6,7 @@ use Rattle.told.specs.Numbers.{DONE, LENGTH, MARK, ORDER_ID, FLAGS, NAME, TWICE,
 use Rattle.table.specs.Folds.{seek}
 use Rattle.orders.specs.Form.{records, record_at, length_fits, marked, id_fits, flags_fit, name_fits, repeats}
 use Rattle.told.specs.Refusals.{number_of}
-use Rattle.orders.specs.declared.check.Bad as code
+use Rattle.orders.specs.declared.bad.Bad as code
 
 -- "MARK 15, ORDER-ID 16, FLAGS 17, NAME 18, TWICE 19, tested in that order within a record": of a record by itself, and of record k of an order
 abbrev pub form_refusals : List ℕ → List Refusal
@@ -34,13 +34,13 @@ pub record Checked : Type 0 where
   pub number : ℕ
   pub bad : ℕ
 
-abbrev pub record_from_1 : Option ℕ → ℕ
-record_from_1 None = 0
-record_from_1 (Some k) = k + 1
+abbrev pub record_named : Option ℕ → ℕ
+record_named None = 0
+record_named (Some k) = k
 
 abbrev pub verdict : Result Unit code.Bad → Checked
 verdict (Ok u) = record { number = DONE; bad = 0 }
-verdict (Err e) = record { number = number_of e.refusal; bad = record_from_1 e.record }
+verdict (Err e) = record { number = number_of e.refusal; bad = record_named e.record }
 
 -- "LENGTH before all", and "LENGTH has none"
 abbrev pub tells : ℕ → ℕ → Checked

@@ -1,34 +1,16 @@
 // C-12: what is wrong with an order, and with which record.
-ghost use Rattle.std.specs.Prelude.{None, ◌≡◌, ◌+◌, ◌*◌, ◌≤◌, length};
+ghost use Rattle.std.specs.Prelude.{◌≡◌, ◌+◌, ◌*◌, ◌≤◌, length};
 ghost use Rattle.told.specs.Numbers.{told};
 ghost use Rattle.told.specs.Refusals.{number};
 ghost use Rattle.orders.specs.Form.{record_bytes, length_fits, marked, name_fits, repeats};
 ghost use Rattle.orders.specs.Check.{form_refusals, record_number, verdict, checked};
 
+pub use crate::bad::Bad;
 use crate::form::{
     LONG, RECEIVE, RECORD, RECORD_MARK, SPACE, id_at, printable, record_at, record_of, records,
 };
 use table::network::ROWS;
 use told::refusals::Refusal;
-
-// What is wrong, and the first record with which it is, from 0, where one is named.
-#[derive(Clone, Copy, Debug, PartialEq, Eq)]
-pub struct Bad {
-    pub record: Option<usize>,
-    pub refusal: Refusal,
-}
-
-// A refusal that names no record.
-impl From<Refusal> for Bad {
-    ghost from_gives = { λ refusal bad. (bad.refusal ≡ refusal) × (bad.record ≡ None) };
-
-    fn from(refusal: Refusal) -> Bad {
-        Bad {
-            record: None,
-            refusal,
-        }
-    }
-}
 
 #[tactic(auto, unfolding(crate::specs::Form::length_fits))]
 fn length_fits(order: &[u8]) -> bool
@@ -91,7 +73,7 @@ pub fn check(order: &[u8]) -> Result<(), Bad>
     Refusal::Length.when(!length_fits(order))?;
     for k in 0..records(order) {
         check_record(order, k).map_err(|refusal| Bad {
-            record: Some(k),
+            record: Some(k + 1),
             refusal,
         })?;
     }

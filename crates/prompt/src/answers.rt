@@ -61,10 +61,9 @@ impl From<Refusal> for Told {
     }
 }
 
-// The record that is named is counted from 1 (C-12).
 impl From<Bad> for Told {
     fn from(bad: Bad) -> Told {
-        Told::Refused(bad.refusal, bad.record.map(|k| k.saturating_add(1)))
+        Told::Refused(bad.refusal, bad.record)
     }
 }
 

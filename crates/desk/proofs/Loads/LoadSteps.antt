@@ -12,7 +12,7 @@ use Rattle.std.specs.Result.{IsErrAnd}
 use Rattle.told.specs.declared.refusals.Refusal.{Refusal}
 use Rattle.told.specs.Refusals.{number_of}
 use Rattle.told.proofs.Told.Results.{not_done}
-use Rattle.orders.specs.declared.check.Bad.{Bad}
+use Rattle.orders.specs.declared.bad.Bad.{Bad}
 use Rattle.bits.specs.Words.{pick, has}
 use Rattle.table.specs.Network.{rows, shape}
 use Rattle.table.specs.Calls.{net_after_write, fresh_number, net_after_fresh, fresh_net}

@@ -5,7 +5,7 @@ use Rattle.table.specs.Network.{row_limit}
 use Rattle.table.specs.Calls.{exact_length}
 use Rattle.table.proofs.Access.Fresh.{exact_mono}
 use Rattle.orders.specs.Form.{record_bytes, records}
-use Rattle.orders.specs.Check.{record_from_1}
+use Rattle.orders.specs.Check.{record_named}
 use Rattle.orders.proofs.Forms.Records.{records_within}
 use Rattle.desk.proofs.Loads.Loaded.{load_within}
 use Rattle.lap.proofs.answer.Goals as goal
@@ -18,10 +18,10 @@ room : (order net : List ℕ) (n size : ℕ) → n ≡ records order → length 
     → size ≡ exact_length n → size ≤ length net
 room order net n size e h r s = omega (arith, s, exact_mono n row_limit (few order n e h), r)
 
--- the record that is named, counted from 0
-from_0 : (k : Option ℕ) (n : ℕ) → record_bytes * record_from_1 k ≤ n → IfSome k (λ k. record_bytes * k + record_bytes ≤ n)
-from_0 None n h = tt
-from_0 (Some k) n h = omega (arith, h)
+-- the record that is named is one of the order's
+within : (k : Option ℕ) (n : ℕ) → record_bytes * record_named k ≤ n → IfSome k (λ k. record_bytes * k ≤ n)
+within None n h = tt
+within (Some k) n h = h
 
 pub exact_length-requires : goal.exact_length-requires
 exact_length-requires g c = let f = few _ _ c.records-n.ensures c.requires.order_len_bound in omega arith
@@ -29,9 +29,8 @@ exact_length-requires g c = let f = few _ _ c.records-n.ensures c.requires.order
 pub slice_bounds-lent-end : goal.slice_bounds-lent-end
 slice_bounds-lent-end g c = room _ _ _ _ c.records-n.ensures c.requires.order_len_bound c.requires.row_limit_in_bounds c.exact_length.ensures
 
--- the record that a refusal names is one of the order's
 pub unfit-requires : goal.unfit-requires
-unfit-requires g c = from_0 _ _ (load_within _ _ _ c.in-Err.ensures.told)
+unfit-requires g c = within _ _ (load_within _ _ _ c.in-Err.ensures.told)
 
 -- a record is a row, and the list has an entry for as many rows as there may be
 pub slice_bounds-takers-end : goal.slice_bounds-takers-end

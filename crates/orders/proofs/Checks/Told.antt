@@ -18,7 +18,7 @@ use Rattle.std.proofs.lemmas.Bool.{cases_Bool}
 use Rattle.bits.proofs.Words.Bools.{pick_of}
 use Rattle.table.specs.Folds.{seek}
 use Rattle.table.proofs.Folds.{seek_more}
-use Rattle.orders.specs.declared.check.Bad.{Bad}
+use Rattle.orders.specs.declared.bad.Bad.{Bad}
 use Rattle.orders.specs.Check.{Checked}
 use Rattle.orders.specs.Form.{records, length_fits}
 use Rattle.orders.specs.Check.{record_number, refused, first_bad, verdict, tells, checked}
@@ -29,7 +29,7 @@ pub verdict_none : (r : Result Unit Bad) (e : kinds.Refusal) → IsErrAnd r (λ 
 verdict_none (Ok u) e h = absurd h
 verdict_none (Err b) e h = rw (h.0, h.1)
 
-pub verdict_some : (r : Result Unit Bad) (b : Bad) (n k : ℕ) → IsErrAnd r (λ y. y ≡ b) → n ≡ number_of b.refusal → b.«record» ≡ Some k → verdict r ≡ tells n (k + 1)
+pub verdict_some : (r : Result Unit Bad) (b : Bad) (n k : ℕ) → IsErrAnd r (λ y. y ≡ b) → n ≡ number_of b.refusal → b.«record» ≡ Some k → verdict r ≡ tells n k
 verdict_some (Ok u) b n k h p q = absurd h
 verdict_some (Err y) b n k h p q = rw (h, q, p)
 

@@ -1,4 +1,4 @@
-use Rattle.std.proofs.Common.{◌≡◌, Some, ◌∙◌, sym, arith, rules}
+use Rattle.std.proofs.Common.{◌≡◌, ◌+◌, Some, ◌∙◌, sym, arith, rules}
 use borrow.Author.Tests.{eqb-false}
 use Rattle.table.proofs.Folds.{seek_none}
 use Rattle.told.specs.Numbers.{DONE}
@@ -23,7 +23,7 @@ check_record-requires c = record_within _ _ (omega (arith, c.records-k-end.ensur
 pub returns-in_err-map_err : goal.returns-in_err-map_err
 returns-in_err-map_err c =
     let b = c.in_err-map_err.field-0.0 in
-    let same : (number c.check_record.result ≡ number_of b.refusal) × (b.«record» ≡ Some c.loop-k.k-counter) = search rules in
+    let same : (number c.check_record.result ≡ number_of b.refusal) × (b.«record» ≡ Some (c.loop-k.k-counter + 1)) = search rules in
     verdict_some _ b _ _ c.from_residual-in_err-map_err.ensures.1 same.0 same.1
     ∙ tells_bad _ (sized _ (search rules)) _ c.loop-k.invariant (omega (arith, c.records-k-end.ensures)) _ c.check_record.ensures
     (λ z. eqb-false _ _ (not_done b.refusal) (sym same.0 ∙ z))
