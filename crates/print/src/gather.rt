@@ -1,14 +1,14 @@
 // Text gathered in a buffer, and written where the buffer is full or the line ends. Where a write fails, its error is
 // handed back, and the rest of the text is not gathered.
-ghost use Rattle.std.specs.Prelude.{◌≡◌, [], ◌∷◌, ◌++◌};
+ghost use Rattle.std.specs.Prelude.{◌≡◌, [], ◌∷◌, ◌++◌, length, OnErr};
 ghost use Rattle.std.specs.Fmt.{decimal};
 ghost use Rattle.std.specs.Int.{to_be_bytes, w64};
-ghost use Rattle.print.specs.Gather.{Gathers, Ends, hex, spaced, pad, column, SPACE};
+ghost use Rattle.print.specs.Gather.{Gathers, Ends, hex, spaced, pad, column, SPACE, ROOM as room};
 
 use std::io;
 use std::marker::Model;
 
-pub const ROOM: usize = 4096;
+const ROOM: usize = 4096;
 
 const DIGITS: [u8; 16] = *b"0123456789ABCDEF";
 
@@ -16,6 +16,7 @@ const DIGITS: [u8; 16] = *b"0123456789ABCDEF";
 #[derive(Drop)]
 pub struct Output<'a, P: Print> {
     to: &'a P,
+    // Kept: no heap; of its one size, only the first `count` bytes are text, and the view holds the two together.
     held: [u8; ROOM],
     count: usize,
 }
@@ -34,7 +35,8 @@ impl<'a, P: Print> Model for Output<'a, P> {
 impl<'a, P: Print> Output<'a, P> {
     // Nothing is gathered yet.
     pub fn new(to: &'a P) -> Output<'a, P>
-        ensures { result.count ≡ 0 }
+        ensures empty { result.count ≡ 0 }
+        ensures room { length result.held ≡ room }
     {
         Output {
             to,
@@ -46,7 +48,8 @@ impl<'a, P: Print> Output<'a, P> {
     // A byte goes behind those that are gathered; where the buffer is full, what it holds is written first.
     #[tactic(auto, using(crate::proofs::Gathers::stopped_none), unfolding(crate::specs::Gather::put, crate::specs::Gather::gather))]
     fn put(&mut self, b: u8) -> io::Result<()>
-        ensures { Gathers result self.old (b ∷ []) self.new }
+        ensures gathered { Gathers result self.old (b ∷ []) self.new }
+        ensures full { OnErr result ((self.old.count ≡ room) × (self.new ≡ self.old)) }
     {
         if self.count == ROOM {
             self.to.write_all(&self.held)?;
@@ -88,8 +91,8 @@ impl<'a, P: Print> Output<'a, P> {
     fn byte(&mut self, b: u8) -> io::Result<()>
         ensures { Gathers result self.old (hex (b ∷ [])) self.new }
     {
-        self.put(DIGITS[(b / 16) as usize])?;
-        self.put(DIGITS[(b % 16) as usize])
+        self.put(DIGITS[usize::from(b / 16)])?;
+        self.put(DIGITS[usize::from(b % 16)])
     }
 
     #[tactic(auto, using(crate::proofs::Gathers::hex_more, crate::proofs::Gathers::hex_stop), unfolding(crate::specs::Gather::gather, crate::specs::Gather::hex))]

@@ -6,7 +6,7 @@ pub mod gather;
 
 use std::io;
 
-// Standard output is what the program was given, and standard error prints too.
+// `to` is the runtime, which prints on standard output, or standard error, which prints too.
 pub fn text(to: &impl Print, s: &[u8]) -> io::Result<()> {
     to.write_all(s)
 }
