@@ -25,7 +25,7 @@ pub enum Mistake {
 }
 
 // An answer of one line: a text or a refusal, and the number after it where there is one.
-#[derive(Clone, Copy)]
+#[derive(Clone, Copy, Debug, PartialEq, Eq)]
 pub enum Told {
     Said(&'static str, Option<usize>),
     Refused(Refusal, Option<usize>),
@@ -45,13 +45,13 @@ impl From<usize> for Told {
 
 impl From<u8> for Told {
     fn from(value: u8) -> Told {
-        Told::from(value as usize)
+        Told::from(usize::from(value))
     }
 }
 
 impl From<bool> for Told {
     fn from(active: bool) -> Told {
-        Told::from(active as usize)
+        Told::from(usize::from(active))
     }
 }
 
@@ -88,7 +88,7 @@ impl From<Answer> for Told {
             Answer::Quiet => Told::Said("QUIET", None),
             Answer::Recovered(row) => Told::Said("RECOVERED", Some(row)),
             Answer::Passed(row) => Told::Said("PASSED", Some(row)),
-            Answer::Unanswered(id) => Told::Said("UNANSWERED", Some(id as usize)),
+            Answer::Unanswered(id) => Told::Said("UNANSWERED", Some(usize::from(id))),
             Answer::TokenLost => Told::Said("TOKENLOST", None),
             Answer::Held(outcome) => Told::from(outcome),
         }
@@ -129,7 +129,7 @@ pub fn tell<P: Print>(out: &mut Output<P>, told: impl Into<Told>) -> io::Result<
         }
         Told::Refused(refusal, record) => {
             out.text(b"REFUSED")?;
-            out.number(refusal.number() as usize)?;
+            out.number(usize::from(refusal.number()))?;
             out.text(b" ")?;
             out.text(refusal.name().as_bytes())?;
             record
@@ -141,7 +141,7 @@ pub fn tell<P: Print>(out: &mut Output<P>, told: impl Into<Told>) -> io::Result<
     out.end()
 }
 
-// DONE and bytes.
+// DONE and bytes. The line goes behind what is gathered: nothing, as `Output::new` says, and `end` of each answer before.
 pub fn hex<P: Print>(out: &mut Output<P>, s: &[u8]) -> io::Result<()>
     ensures { Ends result out.old (DONE ++ spaced s.now) out.new }
 {

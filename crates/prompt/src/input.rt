@@ -1,6 +1,6 @@
 // Standard input, line by line. What was read and not yet taken stands in a buffer.
-ghost use Rattle.std.specs.Prelude.{◌≡◌, ◌-◌, ◌≤◌, length, take, drop};
-ghost use Rattle.prompt.specs.Input.{LINE};
+ghost use Rattle.std.specs.Prelude.{◌≡◌, ◌-◌, ◌≤◌, length, take, drop, ltb, MatchResult};
+ghost use Rattle.prompt.specs.Input.{LINE, text_of};
 
 use crate::answers::Mistake;
 use std::io;
@@ -10,7 +10,7 @@ use std::io::Read;
 pub const LINE: usize = 8192;
 
 // Where a line stands in the buffer, without its newline.
-#[derive(Clone, Copy)]
+#[derive(Clone, Copy, Debug, PartialEq, Eq)]
 pub struct Line {
     from: usize,
     end: usize,
@@ -21,6 +21,7 @@ pub struct Line {
 // What was read, of which the bytes from `next` to `to` are not taken yet.
 #[derive(Drop)]
 pub struct Input {
+    // Kept: no heap; what stands between `next` and `to` wraps nowhere, and is lent as one slice.
     held: [u8; LINE],
     next: usize,
     to: usize,
@@ -39,7 +40,8 @@ impl Input {
 
     // The bytes of a line.
     pub fn text(&self, line: Line) -> &[u8]
-        ensures { length result.now ≤ LINE }
+        ensures text { result.now ≡ text_of self.now.held line.from line.end }
+        ensures fits { length result.now ≤ LINE }
     {
         &self.held[line.from..line.end]
     }
@@ -58,7 +60,9 @@ impl Input {
     // One read, behind what is not taken yet, which is moved to the front. It hands back whether bytes came; where the
     // read fails, its error, and what is not taken stands all the same.
     fn refill(&mut self, stdin: &mut impl Read) -> io::Result<bool>
-        ensures { take (self.old.to - self.old.next) self.new.held ≡ take (self.old.to - self.old.next) (drop self.old.next self.old.held) }
+        ensures bytes { take (self.old.to - self.old.next) self.new.held ≡ take (self.old.to - self.old.next) (drop self.old.next self.old.held) }
+        ensures front { (self.new.next ≡ 0) × (self.old.to - self.old.next ≤ self.new.to) }
+        ensures came { MatchResult result (λ came. came ≡ ltb (self.old.to - self.old.next) self.new.to) (λ e. self.new.to ≡ self.old.to - self.old.next) }
     {
         self.held.copy_within(self.next..self.to, 0);
         self.to -= self.next;

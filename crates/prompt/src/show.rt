@@ -7,7 +7,7 @@ use bits::way::Way;
 use print::gather::Output;
 use registers::regs::Regs;
 use std::io;
-use table::network::{LOST, PASS, phase, rows, wide};
+use table::network::{LOST, PASS, phase, rows};
 use table::walk::Rows;
 
 // The names of the flags that are set. TTA and TRI are a chaining row's: in another no end waits to be cleared.
@@ -74,7 +74,7 @@ fn receives<P: Print>(out: &mut Output<P>, g: Regs) -> io::Result<()> {
 }
 
 fn row<P: Print>(out: &mut Output<P>, k: usize, g: Regs) -> io::Result<()> {
-    out.columns(k, wide(g.id), wide(g.nid))?;
+    out.columns(k, usize::from(g.id), usize::from(g.nid))?;
     out.text(&cells(g))?;
     receives(out, g)?;
     flags(out, g)?;

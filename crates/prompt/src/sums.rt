@@ -13,7 +13,7 @@ pub fn sum(s: &[u8]) -> u64
 {
     let mut h = BASIS;
     for &b in s {
-        h = (h ^ b as u64).wrapping_mul(PRIME);
+        h = (h ^ u64::from(b)).wrapping_mul(PRIME);
     }
     h
 }
