@@ -1,6 +1,7 @@
 // The calls that the line and the desk do not have as they are. Where a write fails, its error is handed back, and the
 // network is as the call left it.
-ghost use Rattle.std.specs.Prelude.{◌≡◌, ◌≤◌, length, is_ok};
+ghost use Rattle.std.specs.Prelude.{◌≡◌, ◌≤◌, length, Ok, Err};
+ghost use Rattle.bits.specs.Words.{pick};
 ghost use Rattle.told.specs.Numbers.{told};
 ghost use Rattle.told.specs.Refusals.{number};
 ghost use Rattle.words.specs.Hex.{unhex};
@@ -8,17 +9,22 @@ ghost use Rattle.table.specs.Network.{row_limit};
 ghost use Rattle.orders.specs.Check.{verdict};
 ghost use Rattle.desk.specs.Load.{loading, net_after_load};
 ghost use Rattle.desk.specs.Lap.{net_after_lap};
-ghost use Rattle.prompt.specs.Input.{LINE};
+ghost use Rattle.prompt.specs.Input.{LINE as line_room};
+ghost use Rattle.prompt.specs.declared.answers.Mistake.TheVariants.{Outside};
 ghost use Rattle.bench.specs.Calls.{shape_number, inside, poked, value_refusals, wide_number, value_number, net_after_value};
 
 use desk::laps::{Taker, Walked};
 use orders::check::Bad;
 use print::gather::Output;
 use prompt::answers::{Mistake, tell};
+use prompt::input::LINE;
 use registers::regs::Regs;
 use std::io;
 use table::network::{regs_at, shape};
 use told::refusals::Refusal;
+
+// The most bytes that a line's digits can spell: two digits a byte.
+const ORDER: usize = LINE / 2;
 
 // SHAPE alone.
 #[tactic(auto, unfolding(crate::specs::Calls::shape_number))]
@@ -41,7 +47,7 @@ pub(crate) fn inside(net: &[u8], at: usize, n: usize) -> bool
 // Bytes are stored, where they all stand inside the lent ones; else nothing is.
 #[tactic(auto, using(words::proofs::Pairs::unhex_length), unfolding(crate::specs::Calls::poked))]
 pub(crate) fn poke(net: &mut [u8], at: usize, digits: &[u8]) -> Result<(), Mistake>
-    ensures done { is_ok result ≡ inside net.old at (length (unhex digits.now)) }
+    ensures done { result ≡ pick (inside net.old at (length (unhex digits.now))) (Ok tt) (Err Outside) }
     ensures bytes { net.new ≡ poked net.old at (unhex digits.now) }
 {
     let n = digits.len() / 2;
@@ -54,23 +60,23 @@ pub(crate) fn poke(net: &mut [u8], at: usize, digits: &[u8]) -> Result<(), Mista
 
 // The network is made anew from the order that the digits spell.
 pub(crate) fn load(net: &mut [u8], digits: &[u8]) -> Result<(), Bad>
-    requires { length digits.now ≤ LINE }
+    requires { length digits.now ≤ line_room }
     ensures told { verdict result ≡ loading (unhex digits.now) net.old }
     ensures bytes { net.new ≡ net_after_load (unhex digits.now) net.old }
 {
     let n = digits.len() / 2;
-    let mut order = [0u8; 4096];
+    let mut order = [0; ORDER];
     words::hex::unhex(digits, &mut order[0..n]);
     desk::loading::load(&order[0..n], net)
 }
 
 // A value above 255 has a bit that no register names: REGISTER, or else VALUE.
-#[tactic(auto, using(told::proofs::Told::Results::handed_number, told::proofs::Told::Results::stands))]
+#[tactic(auto, using(told::proofs::Told::Results::handed_number, told::proofs::Told::Results::stands, told::proofs::Told::Results::passed_not), unfolding(told::specs::Numbers::refuse))]
 fn wide_value(g: Regs, register: usize) -> Result<(), Refusal>
     ensures { number result ≡ told (value_refusals g register) }
 {
     Refusal::Register.when(g.no_register(register))?;
-    Refusal::Value.when(true)
+    Err(Refusal::Value)
 }
 
 // SHAPE and ROW come before it.
@@ -101,9 +107,9 @@ pub(crate) fn write(
 
 // The ID, the row and the invitations of a taker.
 fn taker<P: Print>(out: &mut Output<P>, taker: Taker) -> io::Result<()> {
-    out.number(taker.id as usize)?;
-    out.number(taker.row as usize)?;
-    out.number(taker.invitations as usize)
+    out.number(usize::from(taker.id))?;
+    out.number(usize::from(taker.row))?;
+    out.number(usize::from(taker.invitations))
 }
 
 // DONE and the total, and the takers.

@@ -7,7 +7,9 @@ mod requests;
 mod turns;
 
 ghost use Rattle.std.specs.Prelude.{◌≡◌, ◌≤◌, IfOk, IfErr};
+ghost use Rattle.prompt.specs.Input.{text_of};
 ghost use Rattle.bench.specs.Requests.{NET};
+ghost use Rattle.bench.specs.Turns.{net_after_line, size_after_line};
 
 use print::gather::Output;
 use prompt::answers::{Mistake, tell};
@@ -27,6 +29,8 @@ fn answered<P: Print>(
 ) -> io::Result<usize>
     requires { size ≤ NET }
     ensures size { IfOk result (λ n. n ≤ NET) }
+    ensures line { IfOk taken (λ line. net.new ≡ net_after_line (text_of input.now.held line.from line.end) size net.old) }
+    ensures after { IfOk taken (λ line. IfOk result (λ n. n ≡ size_after_line (text_of input.now.held line.from line.end) size)) }
     ensures mistaken { IfErr taken (λ m. (net.new ≡ net.old) × IfOk result (λ n. n ≡ size)) }
 {
     match taken {

@@ -12,7 +12,7 @@ use words::words::{count, spaced, word};
 const LIST: usize = 70;
 
 // What a line may begin with.
-#[derive(Clone, Copy)]
+#[derive(Clone, Copy, Debug, PartialEq, Eq)]
 pub(crate) enum Word {
     Size,
     Peek,
@@ -55,7 +55,7 @@ const WORDS: [Word; 17] = [
 
 // What a word takes: the place in its line where hex digits may stand, with numbers before it, and the fewest and the
 // most words of the line.
-#[derive(Clone, Copy)]
+#[derive(Clone, Copy, Debug, PartialEq, Eq)]
 pub(crate) struct Form {
     digits: usize,
     fewest: usize,
@@ -63,7 +63,7 @@ pub(crate) struct Form {
 }
 
 // A call, with the numbers after its word; the hex digits of `poke` and `load` stand in the line.
-#[derive(Clone, Copy)]
+#[derive(Clone, Copy, Debug, PartialEq, Eq)]
 pub(crate) enum Call {
     Size(usize),
     Peek {
@@ -199,6 +199,7 @@ impl Word {
 }
 
 // The number that is word k of the line; 0 where the numbers end before it.
+// Kept: a word takes up to three numbers; what it does not take is 0, and no call has it (Requests.argument).
 #[tactic(auto, unfolding(crate::specs::Requests::argument))]
 fn argument(line: &[u8], k: usize, end: usize) -> Result<usize, Mistake>
     ensures { result ≡ argument line.now k end }
