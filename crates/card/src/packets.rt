@@ -60,8 +60,8 @@ impl Shape {
     {
         match self {
             Shape::Malformed => 0,
-            Shape::Short(count) => 256 - count as usize,
-            Shape::Long(count) => 512 - count as usize,
+            Shape::Short(count) => 256 - usize::from(count),
+            Shape::Long(count) => 512 - usize::from(count),
         }
     }
 
@@ -71,7 +71,7 @@ impl Shape {
     {
         match self {
             Shape::Malformed => 0,
-            Shape::Short(count) | Shape::Long(count) => count as usize,
+            Shape::Short(count) | Shape::Long(count) => usize::from(count),
         }
     }
 

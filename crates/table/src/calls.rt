@@ -210,6 +210,7 @@ fn write_header(net: &mut [u8], n: usize)
 }
 
 // Rows are laid over the bytes one after the other: they have no marks yet by which a walk could find them.
+// Kept: `chunks_exact_mut` and `take` were tried: once those borrows are over, a proof knows the length and no byte.
 fn create_rows(net: &mut [u8], n: usize)
     requires { exact_length n ≤ length net.old }
     ensures { net.new ≡ take header_bytes net.old ++ joined (λ k. fresh_row) 0 n (drop (exact_length n) net.old) }

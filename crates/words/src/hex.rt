@@ -38,6 +38,7 @@ pub fn unhex(word: &[u8], out: &mut [u8])
     requires { length out.old ≡ length word.now / 2 }
     ensures { out.new ≡ unhex word.now }
 {
+    // Kept: `zip` with `chunks_exact(2)` was tried, and a loop over it knows nothing of the bytes that were stored.
     for (k, byte) in out.iter_mut().enumerate() {
         *byte = pair(word[2 * k], word[2 * k + 1]);
     }

@@ -21,7 +21,7 @@ fn decimal(word: &[u8]) -> Option<usize>
         if !b.is_ascii_digit() {
             return None;
         }
-        value = 10 * value + (b - b'0') as usize;
+        value = 10 * value + usize::from(b - b'0');
         if MOST < value {
             return None;
         }
