@@ -67,7 +67,7 @@ pub fn load(row: &[u8]) -> Regs
 }
 
 // The registers are written to bytes 2 to 19 and 32 to 34; no other byte changes.
-// Kept: a store for each byte names its place, as `Row.put_regs` does; two arrays that are copied in would hide the places.
+// Kept: a store for each byte names its place, as `Row.put_regs` does; arrays that are copied in would hide it.
 #[tactic(auto, unfolding(crate::specs::Row::put_regs))]
 pub fn store(row: &mut [u8], g: Regs)
     requires { register_bytes ≤ length row.old }

@@ -1,6 +1,6 @@
 // Document 01, "The saved network": the header, a row's part, and the test SHAPE. A row starts where the one before it ends.
-// Kept: the header and a row are parts of lent bytes, and that they stand in them is a `requires`, not a type's invariant:
-// each of these functions is public and named in docs/STATEMENTS.md with the bytes that it takes.
+// Kept: the header and a row are parts of lent bytes, and that they stand in them is a `requires`, not an invariant: each
+// of these functions is public and named in docs/STATEMENTS.md with the bytes that it takes.
 ghost use Rattle.std.specs.Prelude.{◌≡◌, suc, ◌+◌, ◌≤◌, ◌<◌, length, take, drop};
 ghost use Rattle.places.specs.Places.{onward};
 ghost use Rattle.card.specs.Row.{register_bytes, row_size, Whole, put_regs};
@@ -145,8 +145,8 @@ pub fn node_of(net: &[u8], id: u8, except: usize, n: usize) -> Option<usize>
 }
 
 // The highest ID on line.
-// Kept: a fold from 0, as Network.top_id is one; the proof of `max` did not close. A row on line has an ID other than 0
-// (Fit.awake).
+// Kept: a fold from 0, as Network.top_id is one; `max` of the IDs was tried, and its proof did not close. A row on line
+// has an ID other than 0 (Fit.awake).
 #[tactic(auto, using(crate::proofs::Rows::Walk::turns, crate::proofs::Online::Nodes::top_id_none, crate::proofs::Online::Nodes::top_id_step))]
 pub fn top_id(net: &[u8], n: usize) -> Option<u8>
     requires { row_start net.now n ≤ length net.now }
@@ -161,8 +161,8 @@ pub fn top_id(net: &[u8], n: usize) -> Option<u8>
 }
 
 // The bytes end where the first n rows end.
-// Kept: no iterator of rows, since `Rows` wants them to lie in the bytes, and any bytes behind a header may be asked about:
-// each row is looked for before it is passed over.
+// Kept: no iterator of rows, since `Rows` wants them to lie in the bytes, and any bytes behind a header may be asked
+// about: each row is looked for before it is passed over.
 #[tactic(auto, using(crate::proofs::Rows::Starts::start_zero, crate::proofs::Rows::Walks::rest_size, crate::proofs::Rows::Walks::walk_next))]
 fn rows_end(net: &[u8], n: usize) -> bool
     requires { header_bytes ≤ length net.now }
