@@ -13,6 +13,14 @@ use Rattle.bench.specs.declared.requests.Call.TheVariants.{Size, Poke, Fresh, Lo
 use Rattle.bench.specs.Calls.{poked, net_after_value}
 use Rattle.bench.specs.Requests.{asked}
 
+-- the bytes, and how many of them are lent
+pub record Lending : Type 0 where
+  pub bytes : List ℕ
+  pub size : ℕ
+
+abbrev pub lending : List ℕ → ℕ → Lending
+lending bytes size = record { bytes = bytes; size = size }
+
 -- the lent bytes after a call: the digits of `poke` are its line's third word, and those of `load` its second
 abbrev pub net_after_call : Call → List ℕ → List ℕ → List ℕ
 net_after_call (Poke at) line net = poked net at (unhex (word line 2))

@@ -1,7 +1,7 @@
 // A line is answered. Where a write fails, its error is handed back, and the answer ends there; the network is as the call
 // left it, as each clause on its bytes says.
-ghost use Rattle.std.specs.Prelude.{◌≡◌, ◌≤◌, length, IfOk, MatchResult};
-ghost use Rattle.prompt.specs.Input.{LINE};
+ghost use Rattle.std.specs.Prelude.{◌≡◌, ◌≤◌, length, IfOk, IfErr, MatchResult};
+ghost use Rattle.prompt.specs.Input.{LINE, text_of};
 ghost use Rattle.bench.specs.Requests.{NET, Fits};
 ghost use Rattle.bench.specs.Turns.{net_after_call, size_after_call, net_after_line, size_after_line};
 
@@ -10,11 +10,33 @@ use crate::requests::{Call, asked};
 use print::gather::Output;
 use prompt::answers;
 use prompt::answers::{Mistake, tell};
+use prompt::input::{Input, Line};
 use std::io;
+use std::marker::Model;
 use words::words::word;
 
 // The bytes that may be lent.
 pub(crate) const NET: usize = 66400;
+
+// The bytes, of which the first `size` are lent.
+#[derive(Drop)]
+pub(crate) struct Lent {
+    // Kept: no heap; the length changes as the lines say, and bytes beyond it keep their values.
+    bytes: [u8; NET],
+    size: usize,
+}
+
+impl Model for Lent {
+    ghost use Rattle.std.specs.Prelude.{◌≤◌};
+    ghost use Rattle.bench.specs.Requests.{NET};
+    ghost use Rattle.bench.specs.Turns.{Lending, lending};
+
+    ghost Value = { Lending };
+
+    ghost view = { λ l. lending l.bytes l.size };
+
+    ghost invariant = { λ l. l.size ≤ NET };
+}
 
 fn peek<P: Print>(out: &mut Output<P>, net: &[u8], at: usize, count: usize) -> io::Result<()> {
     if !calls::inside(net, at, count) {
@@ -85,26 +107,46 @@ fn size_after(call: Call, size: usize) -> usize
     }
 }
 
-// A line is answered, with the first `size` bytes lent. It hands back the current length.
-#[tactic(auto, unfolding(crate::specs::Turns::net_after_line, crate::specs::Turns::size_after_line, crate::specs::Turns::net_after))]
-pub(crate) fn turn<P: Print>(
-    out: &mut Output<P>,
-    net: &mut [u8],
-    size: usize,
-    line: &[u8],
-) -> io::Result<usize>
-    requires { (size ≤ NET) × (length net.old ≡ NET) × (length line.now ≤ LINE) }
-    ensures size { IfOk result (λ n. (n ≡ size_after_line line.now size) × (n ≤ NET)) }
-    ensures bytes { net.new ≡ net_after_line line.now size net.old }
-{
-    match asked(line) {
-        Ok(call) => {
-            answer(out, &mut net[..size], line, call)?;
-            Ok(size_after(call, size))
+impl Lent {
+    // Nothing is lent yet.
+    pub(crate) fn new() -> Lent {
+        Lent {
+            bytes: [0; NET],
+            size: 0,
         }
-        Err(mistake) => {
-            tell(out, mistake)?;
-            Ok(size)
+    }
+
+    // A line is answered, in the bytes that are lent.
+    #[tactic(auto, unfolding(crate::specs::Turns::net_after_line, crate::specs::Turns::size_after_line, crate::specs::Turns::net_after))]
+    fn turn<P: Print>(&mut self, out: &mut Output<P>, line: &[u8]) -> io::Result<()>
+        requires { length line.now ≤ LINE }
+        ensures size { MatchResult result (λ u. self.new.size ≡ size_after_line line.now self.old.size) (λ e. self.new.size ≡ self.old.size) }
+        ensures bytes { self.new.bytes ≡ net_after_line line.now self.old.size self.old.bytes }
+    {
+        match asked(line) {
+            Ok(call) => {
+                answer(out, &mut self.bytes[..self.size], line, call)?;
+                self.size = size_after(call, self.size);
+                Ok(())
+            }
+            Err(mistake) => tell(out, mistake),
+        }
+    }
+
+    // What was taken is answered; a line that did not fit leaves all as it was.
+    pub(crate) fn answered<P: Print>(
+        &mut self,
+        out: &mut Output<P>,
+        input: &Input,
+        taken: Result<Line, Mistake>,
+    ) -> io::Result<()>
+        ensures bytes { IfOk taken (λ line. self.new.bytes ≡ net_after_line (text_of input.now.held line.from line.end) self.old.size self.old.bytes) }
+        ensures size { IfOk taken (λ line. MatchResult result (λ u. self.new.size ≡ size_after_line (text_of input.now.held line.from line.end) self.old.size) (λ e. self.new.size ≡ self.old.size)) }
+        ensures mistaken { IfErr taken (λ m. (self.new.bytes ≡ self.old.bytes) × (self.new.size ≡ self.old.size)) }
+    {
+        match taken {
+            Ok(line) => self.turn(out, input.text(line)),
+            Err(mistake) => tell(out, mistake),
         }
     }
 }
