@@ -5,13 +5,14 @@ use mathlib.Core.List.{List, [], ◌∷◌, ◌++◌, append_assoc}
 use Prim.Native.Nat.{ℕ, ◌+◌, ◌≤◌, ◌<◌}
 use native.Mathlib.Numerals.{add-one}
 use native.Mathlib.Omega.{arith}
-use lib.ListN.{length, get_or, take, drop}
+use borrow.Author.Tests.{ltb-true}
+use lib.ListN.{length, get_or, take, drop, set}
 use Rattle.std.proofs.Math.Seq.{take-suc}
 use Rattle.std.proofs.Common.{inl, inr, subst}
 use Rattle.std.proofs.lemmas.List.{take-append-drop}
 use Rattle.std.proofs.lemmas.Result.{MatchResult-weaker, err_from_is_err_and}
-use Rattle.std.specs.Prelude.{Result, IsErrAnd}
-use Rattle.print.specs.Gather.{ROOM, NEWLINE, SPACE, Gathered, put, gather, Stopped, Gathers, Ends, line_of, hex, spaced}
+use Rattle.std.specs.Prelude.{Bool, true, false, cond, ltb, Result, IsErrAnd}
+use Rattle.print.specs.Gather.{ROOM, NEWLINE, SPACE, Gathered, got, put, gather, Stopped, Gathers, Ends, line_of, hex, spaced}
 
 pub gather_both : (g : Gathered) (s t : List ℕ) → gather g (s ++ t) ≡ gather (gather g s) t
 unfolding gather
@@ -110,3 +111,13 @@ module _ (g h k : Gathered) (s : List ℕ) (i : ℕ) (lt : i < length s) where
 
     pub hex_stop : h ≡ gather g (hex (take i s)) → Stopped h (hex (get_or s i 0 ∷ [])) k → Gathers r g (hex s) k
     hex_stop p w = gathers_stop g k r Q (hex s) e (each_stop hex hex_both g h s i p lt k w)
+
+-- of a byte that is gathered, the count lies within the buffer
+room_by : (g : Gathered) (b : ℕ) (t : Bool) → ltb g.count ROOM ≡ t
+    → (cond t (got (set g.held g.count b) (g.count + 1)) (got (set g.held 0 b) 1)).count ≤ ROOM
+room_by g b true e = omega (arith, ltb-true g.count ROOM e)
+room_by g b false e = omega arith
+
+pub put_room : (g h : Gathered) (b : ℕ) → h ≡ gather g (b ∷ []) → h.count ≤ ROOM
+unfolding put gather
+put_room g h b e = rw e (room_by g b (ltb g.count ROOM) refl)

@@ -1,6 +1,6 @@
 // Text gathered in a buffer, and written where the buffer is full or the line ends. Where a write fails, its error is
 // handed back, and the rest of the text is not gathered.
-ghost use Rattle.std.specs.Prelude.{◌≡◌, [], ◌∷◌, ◌++◌, length, OnErr};
+ghost use Rattle.std.specs.Prelude.{◌≡◌, ◌≤◌, [], ◌∷◌, ◌++◌, length, OnErr};
 ghost use Rattle.std.specs.Fmt.{decimal};
 ghost use Rattle.std.specs.Int.{to_be_bytes, w64};
 ghost use Rattle.print.specs.Gather.{Gathers, Ends, hex, spaced, pad, column, SPACE, ROOM as room};
@@ -22,14 +22,11 @@ pub struct Output<'a, P: Print> {
 }
 
 impl<'a, P: Print> Model for Output<'a, P> {
-    ghost use Rattle.std.specs.Prelude.{◌≤◌};
-    ghost use Rattle.print.specs.Gather.{Gathered, got, ROOM as room};
+    ghost use Rattle.print.specs.Gather.{Gathered, got};
 
     ghost Value = { Gathered };
 
     ghost view = { λ o. got o.held o.count };
-
-    ghost invariant = { λ o. o.count ≤ room };
 }
 
 impl<'a, P: Print> Output<'a, P> {
@@ -49,9 +46,9 @@ impl<'a, P: Print> Output<'a, P> {
     #[tactic(auto, using(crate::proofs::Gathers::stopped_none), unfolding(crate::specs::Gather::put, crate::specs::Gather::gather))]
     fn put(&mut self, b: u8) -> io::Result<()>
         ensures gathered { Gathers result self.old (b ∷ []) self.new }
-        ensures full { OnErr result ((self.old.count ≡ room) × (self.new ≡ self.old)) }
+        ensures full { OnErr result ((room ≤ self.old.count) × (self.new ≡ self.old)) }
     {
-        if self.count == ROOM {
+        if ROOM <= self.count {
             self.to.write_all(&self.held)?;
             self.count = 0;
         }
