@@ -50,7 +50,7 @@ def repeated(kind, least):
     for f, k, name, head, body in bodies():
         crate = f.split("/")[1]
         if kind == "clause":
-            facts = {it.strip() for it in re.findall(r"requires(?: \w+)? \{ (.*?) \}$", head, re.M)}
+            facts = {re.sub(r"\.(now|old)\b", "", it.strip()) for it in re.findall(r"requires(?: \w+)? \{ (.*?) \}$", head, re.M)}
         else:
             said = re.search(r"\((.*?)\)(?: ->|\s*$|\n)", head, re.S)
             words = [it.strip() for it in (said[1] if said else "").replace("\n", " ").split(",") if ":" in it]
@@ -60,7 +60,7 @@ def repeated(kind, least):
     return [it for group in places.values() if len(group) >= least for it in group]
 
 
-SIZES = "REGISTER_BYTES|ROW_BYTES|RECORD|HEADER|ROWS|NAK_LIMIT|MOST|NET|LIST|LOW2|SETUP|TA|TTA|LINE|LOW|ROOM(?=: usize)"
+SIZES = "RECEIVE|LONG|REGISTER_BYTES|ROW_BYTES|RECORD|HEADER|ROWS|NAK_LIMIT|MOST|NET|LIST|LOW2|SETUP|TA|TTA|LINE|LOW|ROOM(?=: usize)"
 POINTS = {
     1: lambda: found(
         r"^\s+(Illegal|Refused\(\w+\)|Error\(\w+\)),$",
@@ -70,22 +70,23 @@ POINTS = {
         r"\bfn \w*(number|refuse|wide_value)\w*\(.*-> (u8|Number)$",
         r"\bfn (fresh|write|write_on|reset|timer|top_id|nibble)\(.*-> u8$",
         r"\bfn (node_of|record_of)\(.*-> usize$",
-        r"\bfn \w+\(.*-> (Checked|Lapped|Walked|Reading|Interrupting|Number|Input|Told)$",
+        r"\bfn (?!run\()\w+\(.*-> (Checked|Lapped|Walked|Reading|Interrupting|Number|Input|Told)$",
         r"\bfn step\(.*-> Answer$",
     ),
     # by their shape, and by name those that stand apart
     2: lambda: twins()
     + found(
-        r"\bfn (choose|either|transmitting|receiving|transmit_page|receive_page|happen|carry|id_at|flags_at)\b",
+        r"\bfn (choose\(|(either|transmitting|receiving|transmit_page|receive_page|id_at|flags_at)\b|(happen|carry)\(net: &mut \[u8\], n:)",
         r"\bstruct (Reading|Interrupting|Lapped)\b",
         r"\bfn (text|decimal)\((rt: &impl Print|err: Stderr), (s|n): ",
     ),
-    3: lambda: found(r"^\s*while ", r"^\s*for \w+ in 0\.\."),
-    4: lambda: found(r"^#\[derive\(Clone, Copy\)\]$", r"\[0\] == \w*MARK\[0\]", r"\bfn (same|wide|fill|shift|all_zero|fill_zero|worded|valued|numbered|reading|checked|interrupting)\("),
+    # a count to u64::MAX stands for a loop that has no end
+    3: lambda: found(r"^\s*while ", r"^\s*for [a-z]\w* in 0\.\.(?!u64::MAX)", r"\b\w+\[\d \* k\]"),
+    4: lambda: found(r"^#\[derive\(Clone, Copy\)\]$", r"\[0\] == \w*MARK\[0\]", r"\bfn (same|wide|fill|shift|fill_zero|worded|valued|numbered|reading|checked|interrupting)\(", r"\{ 1 \} else \{ 0 \}", r"/ 256\) as u8"),
     5: lambda: repeated("clause", 3) + repeated("parameters", 3),
-    6: lambda: found(r"^\s+(pub(\(crate\))? )?\w+: \[\w+; \w+\],$", r"^(pub )?const \w+: \[u8; \d{3}\]", r"out: &mut \[u8; ROOM\], n: usize"),
-    7: lambda: found(r"^\s+(let tens|match (tens|call|event|number|command))\b", r"^\s+(pub(\(crate\))? )?call: usize,$", r"\b(CHECK|DATA|FRESH|INTERRUPT|PEEK|POKE|READ|RESET|SHOW|STEP|SUM|WRITE) =>"),
-    8: lambda: [(f[len(top) + 1 :], sum(1 for _ in open(f)), "lines") for f in sorted(glob.glob(f"{top}/crates/*/proofs/**/Answers.antt", recursive=True))],
+    6: lambda: found(r"^\s+(pub(\(crate\))? )?\w+: \[(?!\d)\w+; \w+\],$", r"^(pub )?const \w+: \[u8; \d{3}\]", r"out: &mut \[u8; ROOM\], n: usize"),
+    7: lambda: found(r"^\s+(let tens|match (tens|event|number|register|phase|self\.sub_address\(\)|phase\(net\)))\b", r"^\s+(pub(\(crate\))? )?call: usize,$", r"\b(CHECK|DATA|FRESH|INTERRUPT|PEEK|POKE|READ|RESET|SHOW|STEP|SUM|WRITE) =>"),
+    8: lambda: [(f[len(top) + 1 :], len(re.findall(r"(?m)^pub .* : goal\.", open(f).read())), "goals") for f in sorted(glob.glob(f"{top}/crates/*/proofs/**/Answers.antt", recursive=True))],
 }
 
 for point, places in POINTS.items():
