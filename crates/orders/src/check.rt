@@ -2,12 +2,12 @@
 ghost use Rattle.std.specs.Prelude.{◌≡◌, ◌+◌, ◌*◌, ◌≤◌, length};
 ghost use Rattle.told.specs.Numbers.{told};
 ghost use Rattle.told.specs.Refusals.{number};
-ghost use Rattle.orders.specs.Form.{record_bytes, length_fits, marked, name_fits, repeats};
+ghost use Rattle.orders.specs.Form.{record_bytes, length_fits, name_fits, repeats};
 ghost use Rattle.orders.specs.Check.{form_refusals, record_number, verdict, checked};
 
 pub use crate::bad::Bad;
 use crate::form::{
-    LONG, RECEIVE, RECORD, RECORD_MARK, SPACE, id_at, printable, record_at, record_of, records,
+    LONG, RECEIVE, RECORD, Record, SPACE, id_at, printable, record_at, record_of, records,
 };
 use table::network::ROWS;
 use told::refusals::Refusal;
@@ -20,31 +20,22 @@ fn length_fits(order: &[u8]) -> bool
     (order.len() % RECORD == 0) & (0 < n) & (n <= ROWS)
 }
 
-fn marked(form: &[u8]) -> bool
-    requires { length form.now ≡ record_bytes }
-    ensures { result ≡ marked form.now }
-{
-    form.starts_with(&RECORD_MARK)
-}
-
 // The name prints, and its first character is not a space.
-#[tactic(auto, using(crate::proofs::Forms::Names::all_of_name))]
-fn name_fits(form: &[u8]) -> bool
-    requires { length form.now ≡ record_bytes }
-    ensures { result ≡ name_fits form.now }
+fn name_fits(form: Record) -> bool
+    ensures { result ≡ name_fits form.entry.bytes.now }
 {
-    (form[4] != SPACE) & printable(&form[4..])
+    let name = form.name();
+    (name[0] != SPACE) & printable(name)
 }
 
 // A record by itself.
 #[tactic(auto, using(crate::proofs::Checks::Tests::above, told::proofs::Told::Results::handed_number, told::proofs::Told::Results::stands))]
-fn check_form(form: &[u8]) -> Result<(), Refusal>
-    requires { length form.now ≡ record_bytes }
-    ensures { number result ≡ told (form_refusals form.now) }
+fn check_form(form: Record) -> Result<(), Refusal>
+    ensures { number result ≡ told (form_refusals form.entry.bytes.now) }
 {
-    Refusal::Mark.when(!marked(form))?;
-    Refusal::OrderId.when(form[2] < 1)?;
-    Refusal::Flags.when(RECEIVE + LONG < form[3])?;
+    Refusal::Mark.when(!form.marked())?;
+    Refusal::OrderId.when(form.id() == 0)?;
+    Refusal::Flags.when(RECEIVE | LONG < form.flags())?;
     Refusal::Name.when(!name_fits(form))
 }
 

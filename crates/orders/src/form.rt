@@ -2,14 +2,14 @@
 ghost use Rattle.std.specs.Prelude.{◌≡◌, ◌+◌, ◌*◌, ◌≤◌, ◌<◌, eqb, length};
 ghost use Rattle.places.specs.Places.{onward};
 ghost use Rattle.table.specs.Folds.{seek, below};
-ghost use Rattle.orders.specs.Form.{record_bytes, records, record_at, id_at, flags_of, printables, trimmed, name_from, name_at};
+ghost use Rattle.orders.specs.Form.{record_bytes, records, record_at, marked, id_of, id_at, flags_of, name_of, printables, trimmed, name_from, name_at};
 
 pub const RECORD: usize = 16;
 
 // The fixed bytes that each record begins with.
-pub(crate) const RECORD_MARK: [u8; 2] = *b"\x4f\x52";
+const RECORD_MARK: [u8; 2] = *b"\x4f\x52";
 
-pub(crate) const SPACE: u8 = 0x20;
+pub(crate) const SPACE: u8 = b' ';
 
 // Flag bits of a record.
 pub const RECEIVE: u8 = 1;
@@ -24,31 +24,69 @@ pub fn records(order: &[u8]) -> usize
     order.len() / RECORD
 }
 
-// A record's part of the order.
-#[tactic(auto, using(crate::proofs::Forms::Records::length_record_at), unfolding(places::specs::Places::onward, crate::specs::Form::record_at))]
-pub(crate) fn record_at(order: &[u8], k: usize) -> &[u8]
-    requires { record_bytes * k + record_bytes ≤ length order.now }
-    ensures bytes { result.now ≡ record_at order.now k }
-    ensures size { length result.now ≡ record_bytes }
-    ensures place { result.ref_ptr ≡ onward order.entry.ref_ptr (record_bytes * k) }
-{
-    let a = RECORD * k;
-    &order[a..a + RECORD]
+// A record of an order, by itself: what stands where in its bytes.
+#[derive(Clone, Copy)]
+pub(crate) struct Record<'a> {
+    pub(crate) bytes: &'a [u8],
+    pub(crate) ghost sized: { length bytes.now ≡ record_bytes },
 }
 
-// Kept: an ID and flags, as document 01 names them, one index each; one function of the offset would read no plainer.
+impl<'a> Record<'a> {
+    pub(crate) fn marked(self) -> bool
+        ensures { result ≡ marked self.entry.bytes.now }
+    {
+        self.bytes.starts_with(&RECORD_MARK)
+    }
+
+    pub(crate) fn id(self) -> u8
+        ensures { result ≡ id_of self.entry.bytes.now }
+    {
+        self.bytes[2]
+    }
+
+    pub(crate) fn flags(self) -> u8
+        ensures { result ≡ flags_of self.entry.bytes.now }
+    {
+        self.bytes[3]
+    }
+
+    #[tactic(auto, using(crate::proofs::Forms::Names::all_of_name), unfolding(places::specs::Places::onward))]
+    pub(crate) fn name(self) -> &'a [u8]
+        ensures bytes { result.now ≡ name_of self.entry.bytes.now }
+        ensures size { 0 < length result.now }
+        ensures place { result.ref_ptr ≡ onward self.entry.bytes.ref_ptr 4 }
+    {
+        &self.bytes[4..]
+    }
+}
+
+// Record k.
+#[tactic(auto, using(crate::proofs::Forms::Records::length_record_at), unfolding(places::specs::Places::onward, crate::specs::Form::record_at))]
+pub(crate) fn record_at(order: &[u8], k: usize) -> Record<'_>
+    requires { record_bytes * k + record_bytes ≤ length order.now }
+    ensures bytes { result.bytes.now ≡ record_at order.now k }
+    ensures place { result.bytes.ref_ptr ≡ onward order.entry.ref_ptr (record_bytes * k) }
+{
+    let a = RECORD * k;
+    Record {
+        bytes: &order[a..a + RECORD],
+    }
+}
+
+// Kept: id_at and flags_at are public and ask that record k is there (docs/STATEMENTS.md, "What is public and asks
+// something"); the others serve them.
 pub fn id_at(order: &[u8], k: usize) -> u8
     requires { record_bytes * k + record_bytes ≤ length order.now }
     ensures { result ≡ id_at order.now k }
 {
-    record_at(order, k)[2]
+    record_at(order, k).id()
 }
 
 pub fn flags_at(order: &[u8], k: usize) -> u8
     requires { record_bytes * k + record_bytes ≤ length order.now }
     ensures { result ≡ flags_of (record_at order.now k) }
 {
-    record_at(order, k)[3]
+    record_at(order, k).flags()
 }
 
 // Each byte is a printing character, 20 to 7E.
@@ -67,7 +105,7 @@ pub fn record_of(order: &[u8], id: u8, n: usize) -> Option<usize>
 }
 
 // A name without its trailing spaces.
-#[tactic(auto, using(crate::proofs::Forms::Names::trim_to, crate::proofs::Forms::Names::trim_none))]
+#[tactic(auto, using(crate::proofs::Forms::Names::trim_none))]
 fn trimmed(name: &[u8]) -> &[u8]
     ensures bytes { result.now ≡ trimmed name.now }
     ensures place { result.ref_ptr ≡ name.entry.ref_ptr }
@@ -79,7 +117,7 @@ fn trimmed(name: &[u8]) -> &[u8]
 }
 
 // The station name of record k; nothing where there is no such record.
-#[tactic(auto, using(crate::proofs::Forms::Records::records_within, crate::proofs::Forms::Names::all_of_name), unfolding(places::specs::Places::onward, crate::specs::Form::name_at))]
+#[tactic(auto, using(crate::proofs::Forms::Records::records_within), unfolding(places::specs::Places::onward, crate::specs::Form::name_at))]
 pub fn name_at(order: &[u8], k: usize) -> &[u8]
     ensures bytes { result.now ≡ name_at order.now k }
     ensures place { k < records order.now → result.ref_ptr ≡ onward order.entry.ref_ptr (name_from k) }
@@ -87,5 +125,5 @@ pub fn name_at(order: &[u8], k: usize) -> &[u8]
     if records(order) <= k {
         return &order[..0];
     }
-    trimmed(&record_at(order, k)[4..])
+    trimmed(record_at(order, k).name())
 }
