@@ -65,6 +65,7 @@ pub fn nobody() -> [Taker; ROWS]
 }
 
 // Fault-free steps from LOST until the first holder has the token again.
+// Kept: SHAPE is asked of the lent bytes, as `step_on` asks it.
 fn run(net: &mut [u8]) -> Walked
     requires shaped { shape net.old ≡ true }
     requires lost { phase net.old ≡ LOST }

@@ -10,6 +10,7 @@ use orders::form::{LONG, RECEIVE, flags_at, id_at, records};
 use table::calls::{fresh, write_on};
 
 // The registers that are written.
+// Kept: a register is its number in the data sheet, as write_on takes it (decision 177).
 const COMMAND: usize = 1;
 
 const CONFIGURATION: usize = 6;
@@ -26,7 +27,9 @@ const LONG_PACKETS: u8 = 0x0d;
 
 const ENABLE_RECEIVE: u8 = 0x84;
 
-// A register is written. None of the writes below refuses a row that was reset (Loaded.never_refused), so the answer is not asked.
+// A register is written. None of the writes below refuses a row that was reset (Loaded.never_refused), so the answer is not
+// asked.
+// Kept: SHAPE is asked of the lent bytes, here and below, as `write_on` asks it.
 fn set(net: &mut [u8], k: usize, register: usize, value: u8)
     requires shaped { shape net.old ≡ true }
     requires row { k < rows net.old }

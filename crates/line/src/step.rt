@@ -88,7 +88,8 @@ fn pass(net: &mut [u8], fault: usize) -> Answer
 }
 
 // A step of a network that SHAPE does not refuse. It serves whoever has tested SHAPE already.
-// Kept: a fault is a number, since any may be passed; one above 3 is VALUE (`Step.step_refusals`).
+// Kept: a fault is a number, since any may be passed; one above 3 is VALUE (`Step.step_refusals`). A phase is a byte, as
+// `table::network::phase` gives it.
 #[tactic(auto, using(crate::proofs::Rooms::rooms, crate::proofs::Steps::Stepped::held_row), unfolding(crate::specs::Step::step_turn))]
 pub fn step_on(net: &mut [u8], fault: usize) -> Answer
     requires { shape net.old ≡ true }

@@ -82,6 +82,7 @@ fn row<P: Print>(out: &mut Output<P>, k: usize, g: Regs) -> io::Result<()> {
 }
 
 // The phase, and who holds the token in it.
+// Kept: a phase is a byte, as `table::network::phase` gives it.
 fn holder<P: Print>(out: &mut Output<P>, phase: u8, row: usize) -> io::Result<()> {
     match phase {
         LOST => return out.text(b"LOST, nobody"),

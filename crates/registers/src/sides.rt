@@ -49,6 +49,7 @@ impl Regs {
         self.with_side(way, f(self.side(way)))
     }
 
+    // Kept: a line each, here and below, since each contract names a definition of its own (Queues.enabled and so on).
     pub(crate) fn enabled(self, way: Way, entry: u8) -> Regs
         ensures { result ≡ with_side way (queues.enabled way (chaining self) entry (side_of way self)) self }
     {
