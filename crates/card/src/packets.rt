@@ -10,7 +10,8 @@ use registers::regs::Regs;
 use told::refusals::Refusal;
 
 // What a page holds, and the COUNT byte of a packet: the page offset at which its data start.
-// Kept: a malformed page has sizes too, as `Packets.data_bytes`, `data_at`, `head_bytes` and `page_bytes` are 0 for it.
+// Kept: four functions of a shape, one for each of `Packets.data_bytes`, `data_at`, `head_bytes` and `page_bytes`, which
+// are 0 for a malformed page.
 #[derive(Clone, Copy, Debug, PartialEq, Eq)]
 pub enum Shape {
     Malformed,

@@ -64,6 +64,7 @@ pub fn load(order: &[u8], net: &mut [u8]) -> Result<(), Bad>
     check(order)?;
     let n = records(order);
     fresh(net, n)?;
+    // Kept: k is the number of the record and of its row.
     for k in 0..n {
         load_row(net, k, id_at(order, k), flags_at(order, k));
     }

@@ -45,6 +45,7 @@ fn name(err: &impl Print, name: &[u8]) -> io::Result<()> {
 }
 
 // Record k of an order, from 0.
+// Kept: it derives no more, since nothing compares or prints one.
 #[derive(Clone, Copy)]
 struct Record<'a> {
     order: &'a [u8],

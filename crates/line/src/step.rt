@@ -14,6 +14,7 @@ use table::network::{
 use told::refusals::Refusal;
 
 // The fault that leaves no token: "3 invitation destroyed".
+// Kept: a fault is the number that a host passes, as `Step.destroyed` takes it.
 const DESTROYED: usize = 3;
 
 // What a step answers. A row is given by its number, from 0; `Unanswered` names the ID that was invited.
@@ -45,6 +46,7 @@ impl Answer {
 }
 
 // LOST: the on-line row of highest ID, if anybody is on line, holds in PASS.
+// Kept: SHAPE is asked of the lent bytes, here and below, as `step_on` asks it.
 #[tactic(auto, using(crate::proofs::Rooms::rooms, crate::proofs::Steps::Holders::highest_found), unfolding(crate::specs::Step::lost_turn))]
 fn lost(net: &mut [u8]) -> Answer
     requires { shape net.old ≡ true }

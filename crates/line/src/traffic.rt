@@ -13,6 +13,7 @@ use card::packets::Shape;
 use table::network::{node_of, put_regs, regs_at, row_at, row_end, row_start, rows};
 
 // Faults of a step: "1 packet damaged, 2 final ACK lost".
+// Kept: a fault is the number that a host passes, as `Traffic.went_out` and `packet_turn` take it.
 const DAMAGED: usize = 1;
 
 const ACK_LOST: usize = 2;
@@ -41,6 +42,7 @@ fn asked(net: &mut [u8], h: usize, nak: bool)
 }
 
 // A packet that waits in a page of row h, and the fault of the step in which it is tried.
+// Kept: it derives no more, since nothing compares or prints one.
 #[derive(Clone, Copy)]
 struct Sending {
     h: usize,

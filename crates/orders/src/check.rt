@@ -40,6 +40,7 @@ fn check_form(form: Record) -> Result<(), Refusal>
 }
 
 // A record before record k has its ID: of two records with one ID the later is bad.
+// Kept: that record k is there is asked of the lent bytes, here and below, as `id_at` asks it.
 fn repeats(order: &[u8], k: usize) -> bool
     requires { record_bytes * k + record_bytes ≤ length order.now }
     ensures { result ≡ repeats order.now k }
@@ -62,6 +63,7 @@ pub fn check(order: &[u8]) -> Result<(), Bad>
     ensures { verdict result ≡ checked order.now }
 {
     Refusal::Length.when(!length_fits(order))?;
+    // Kept: k is the record's number, from 0.
     for k in 0..records(order) {
         check_record(order, k).map_err(|refusal| Bad {
             record: Some(k + 1),

@@ -25,6 +25,7 @@ pub fn records(order: &[u8]) -> usize
 }
 
 // A record of an order, by itself: what stands where in its bytes.
+// Kept: it derives no more, since nothing compares or prints one.
 #[derive(Clone, Copy)]
 pub(crate) struct Record<'a> {
     pub(crate) bytes: &'a [u8],
@@ -73,8 +74,8 @@ pub(crate) fn record_at(order: &[u8], k: usize) -> Record<'_>
     }
 }
 
-// Kept: id_at and flags_at are public and ask that record k is there (docs/STATEMENTS.md, "What is public and asks
-// something"); the others serve them.
+// Kept: id_at and flags_at are public, with a contract each, and ask that record k is there (docs/STATEMENTS.md, "What is
+// public and asks something"); `record_at` asks it for them.
 pub fn id_at(order: &[u8], k: usize) -> u8
     requires { record_bytes * k + record_bytes ≤ length order.now }
     ensures { result ≡ id_at order.now k }

@@ -20,6 +20,7 @@ impl Regs {
     pub fn no_register(self, register: usize) -> bool
         ensures { result ≡ no_register self register }
     {
+        // Kept: an address of the data sheet, here and below, as in access.rt.
         match register {
             0..=4 | 6 => false,
             7 => self.sub_address() == 3,

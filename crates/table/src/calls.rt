@@ -1,4 +1,6 @@
 // Document 01, "Registers" and "Packets", for a row of a network, and the fresh call. Each call tests SHAPE once.
+// Kept: network, row and register are what a host passes, as 01 gives the calls; that a row stands in the lent bytes is a
+// `requires` of the private ones, as in network.rt.
 ghost use Rattle.std.specs.Prelude.{◌≡◌, true, ◌∷◌, ◌++◌, suc, ◌≤◌, ◌<◌, length, take, drop, replicate};
 ghost use Rattle.places.specs.Places.{onward};
 ghost use Rattle.told.specs.Refusals.{number};

@@ -1,6 +1,6 @@
 // Document 01, "The saved network": the header, a row's part, and the test SHAPE. A row starts where the one before it ends.
-// Kept: the header and a row are parts of lent bytes, and that they stand in them is a `requires`, not an invariant: each
-// of these functions is public and named in docs/STATEMENTS.md with the bytes that it takes.
+// Kept: the header and a row are parts of lent bytes, and that they stand in them is a `requires`, not an invariant: the
+// public ones are named in docs/STATEMENTS.md with the bytes that they take, and the private ones ask the same of theirs.
 ghost use Rattle.std.specs.Prelude.{◌≡◌, suc, ◌+◌, ◌≤◌, ◌<◌, length, take, drop};
 ghost use Rattle.places.specs.Places.{onward};
 ghost use Rattle.card.specs.Row.{register_bytes, row_size, Whole, put_regs};
@@ -25,7 +25,7 @@ pub const TAKEN: u8 = 2;
 // The fixed bytes that a network begins with.
 pub(crate) const MARK: [u8; 2] = *b"\x41\x4e";
 
-// Kept: public; OfTable.wide of promises holds its contract.
+// Kept: public, and called by nobody now; OfTable.wide of promises holds its contract.
 pub fn wide(x: u8) -> usize
     ensures { (result ≡ x) × (result < 256) }
 {

@@ -69,6 +69,7 @@ fn lend<F: Fn(usize, &mut [u8])>(f: &F, k: usize, row: &mut [u8])
 }
 
 // Each of the first n rows is lent to f, with its number.
+// Kept: that the rows stand in the lent bytes is a `requires`, as in network.rt; k is the row's number, which f is told.
 pub fn each_row_mut<F: Fn(usize, &mut [u8])>(net: &mut [u8], n: usize, f: F)
     requires room { row_start net.old n ≤ length net.old }
     requires accepts { (k : ℕ) → k < n → AcceptsAt F.Fn f k (row_at net.old k) }

@@ -30,6 +30,7 @@ pub enum Refusal {
 }
 
 impl Refusal {
+    // Kept: the one place in code that says 01's numbers, as `Refusals.number_of` has them.
     // 11 is not given again (C-20): no line step could answer it, since SHAPE comes first.
     pub fn number(self) -> u8
         ensures { result ≡ number_of self }
