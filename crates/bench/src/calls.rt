@@ -116,6 +116,7 @@ fn taker<P: Print>(out: &mut Output<P>, taker: Taker) -> io::Result<()> {
 fn lapped<P: Print>(out: &mut Output<P>, walked: &Walked) -> io::Result<()>
     requires { walked.now.n ≤ row_limit }
 {
+    out.begin();
     out.text(b"DONE")?;
     out.number(walked.total as usize)?;
     for &t in &walked.list[..walked.n] {

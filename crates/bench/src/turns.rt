@@ -46,6 +46,7 @@ fn peek<P: Print>(out: &mut Output<P>, net: &[u8], at: usize, count: usize) -> i
 }
 
 fn sum<P: Print>(out: &mut Output<P>, net: &[u8]) -> io::Result<()> {
+    out.begin();
     out.text(b"DONE ")?;
     out.sixteen(prompt::sums::sum(net))?;
     out.end()

@@ -3,12 +3,14 @@
 ghost use Rattle.std.specs.Prelude.{◌≡◌, ◌≤◌, [], ◌∷◌, ◌++◌, length, OnErr};
 ghost use Rattle.std.specs.Fmt.{decimal};
 ghost use Rattle.std.specs.Int.{to_be_bytes, w64};
-ghost use Rattle.print.specs.Gather.{Gathers, Ends, hex, spaced, pad, column, SPACE, ROOM as room};
+ghost use Rattle.print.specs.Gather.{got, Gathers, Ends, hex, spaced, pad, column, SPACE, ROOM as room};
 
 use std::io;
 use std::marker::Model;
 
-const ROOM: usize = 4096;
+// How many bytes are gathered before they are written.
+// Kept: public, for whoever asks when an `Output` writes.
+pub const ROOM: usize = 4096;
 
 const DIGITS: [u8; 16] = *b"0123456789ABCDEF";
 
@@ -40,6 +42,13 @@ impl<'a, P: Print> Output<'a, P> {
             held: [0; ROOM],
             count: 0,
         }
+    }
+
+    // A text begins: what was gathered and not written, as where a write failed, does not come with it.
+    pub fn begin(&mut self)
+        ensures { self.new ≡ got self.old.held 0 }
+    {
+        self.count = 0;
     }
 
     // A byte goes behind those that are gathered; where the buffer is full, what it holds is written first.

@@ -1,6 +1,6 @@
 // The answer lines. Where a write fails, its error is handed back, and the rest of the line is not gathered.
 ghost use Rattle.std.specs.Prelude.{◌++◌};
-ghost use Rattle.print.specs.Gather.{Ends, spaced};
+ghost use Rattle.print.specs.Gather.{got, Ends, spaced};
 ghost use Rattle.prompt.specs.Answers.{DONE};
 
 use line::step::Answer;
@@ -122,6 +122,7 @@ impl<T: Into<Told>, E: Into<Told>> From<Result<T, E>> for Told {
 }
 
 pub fn tell<P: Print>(out: &mut Output<P>, told: impl Into<Told>) -> io::Result<()> {
+    out.begin();
     let value = match told.into() {
         Told::Said(text, value) => {
             out.text(text.as_bytes())?;
@@ -141,10 +142,11 @@ pub fn tell<P: Print>(out: &mut Output<P>, told: impl Into<Told>) -> io::Result<
     out.end()
 }
 
-// DONE and bytes. The line goes behind what is gathered: nothing, as `Output::new` says, and `end` of each answer before.
+// DONE and bytes.
 pub fn hex<P: Print>(out: &mut Output<P>, s: &[u8]) -> io::Result<()>
-    ensures { Ends result out.old (DONE ++ spaced s.now) out.new }
+    ensures { Ends result (got out.old.held 0) (DONE ++ spaced s.now) out.new }
 {
+    out.begin();
     out.text(b"DONE")?;
     out.spaced(s)?;
     out.end()

@@ -22,6 +22,7 @@ const WORDS: &str = "size LEN             the current length, 0 to 66400\n\
     DONE";
 
 pub fn help<P: Print>(out: &mut Output<P>) -> io::Result<()> {
+    out.begin();
     out.text(WORDS.as_bytes())?;
     out.end()
 }

@@ -1,5 +1,8 @@
 // Standard input, line by line. What was read and not yet taken stands in a buffer.
-ghost use Rattle.std.specs.Prelude.{◌≡◌, ◌-◌, ◌≤◌, length, take, drop, ltb, MatchResult};
+ghost use Rattle.std.specs.Prelude.{◌≡◌, ◌-◌, ◌≤◌, length, take, drop, ltb, Ok, Err, IfOk, IfErr, IfSome, MatchResult};
+ghost use Rattle.places.specs.Places.{onward};
+ghost use Rattle.bits.specs.Words.{pick};
+ghost use Rattle.prompt.specs.declared.answers.Mistake.TheVariants.{Long};
 ghost use Rattle.prompt.specs.Input.{LINE, text_of};
 
 use crate::answers::Mistake;
@@ -18,8 +21,18 @@ pub struct Line {
     ghost within: { end ≤ LINE },
 }
 
+impl Line {
+    // A line that did not fit the buffer is a mistake, and no other is.
+    fn fitting(self, long: bool) -> Result<Line, Mistake>
+        ensures { result ≡ pick long (Err Long) (Ok self) }
+    {
+        if long { Err(Mistake::Long) } else { Ok(self) }
+    }
+}
+
 // What was read, of which the bytes from `next` to `to` are not taken yet.
-#[derive(Drop)]
+// Kept: a value like any other, so that whoever holds one may read on from it twice.
+#[derive(Clone, Copy, Debug, PartialEq, Eq)]
 pub struct Input {
     // Kept: no heap; what stands between `next` and `to` wraps nowhere, and is lent as one slice.
     held: [u8; LINE],
@@ -39,9 +52,11 @@ impl Input {
     }
 
     // The bytes of a line.
+    #[tactic(auto, unfolding(places::specs::Places::onward))]
     pub fn text(&self, line: Line) -> &[u8]
         ensures text { result.now ≡ text_of self.now.held line.from line.end }
         ensures fits { length result.now ≤ LINE }
+        ensures place { result.ref_ptr ≡ onward self.entry.ref_ptr line.from }
     {
         &self.held[line.from..line.end]
     }
@@ -72,9 +87,9 @@ impl Input {
         Ok(0 < n)
     }
 
-    // The input has ended: what is not taken yet is the last line, if there is one.
-    fn last(&mut self) -> Option<Line> {
-        if self.next == self.to {
+    // The input has ended: what is not taken yet is the last line, if there is one, or the end of one that did not fit.
+    fn last(&mut self, long: bool) -> Option<Line> {
+        if (self.next == self.to) & !long {
             return None;
         }
         let line = Line {
@@ -88,12 +103,14 @@ impl Input {
     // The next line is taken; the last one may lack its newline. One that does not fit is a mistake, and its bytes are
     // gone. Where a read fails, its error is handed back, and no line is taken: what the buffer holds is the beginning of
     // one.
-    pub fn next(&mut self, stdin: &mut impl Read) -> io::Result<Option<Result<Line, Mistake>>> {
+    pub fn next(&mut self, stdin: &mut impl Read) -> io::Result<Option<Result<Line, Mistake>>>
+        ensures { IfOk result (λ o. IfSome o (λ taken. IfErr taken (λ m. m ≡ Long))) }
+    {
         let mut long = false;
         // A proved loop has to end, and nothing says that a line does: no run uses up this count.
         for _ in 0..u64::MAX {
             if let Some(line) = self.take() {
-                return Ok(Some(if long { Err(Mistake::Long) } else { Ok(line) }));
+                return Ok(Some(line.fitting(long)));
             }
             // A full buffer with no newline in it: what it holds of the line is dropped.
             if self.to - self.next == LINE {
@@ -104,10 +121,6 @@ impl Input {
                 break;
             }
         }
-        if long {
-            self.next = self.to;
-            return Ok(Some(Err(Mistake::Long)));
-        }
-        Ok(self.last().map(Ok))
+        Ok(self.last(long).map(|line| line.fitting(long)))
     }
 }

@@ -96,6 +96,7 @@ fn holder<P: Print>(out: &mut Output<P>, phase: u8, row: usize) -> io::Result<()
 pub fn show<P: Print>(out: &mut Output<P>, net: &[u8]) -> io::Result<()>
     requires { shape net.now ≡ true }
 {
+    out.begin();
     out.text(b" ROW  ID NID  LINE  TX   RX  FLAGS")?;
     out.end()?;
     for (k, card) in Rows::first(net, rows(net)).enumerate() {
