@@ -9,7 +9,7 @@ use Rattle.table.specs.contracts as contracts
 use Rattle.table.proofs.network as network
 use Rattle.table.proofs.walk as walk
 use Rattle.table.proofs.calls as calls
-use Rattle.promises.specs.Once.{FixedBy, FixedIf, Fixed, OnceBy, Once, SamePart}
+use Rattle.promises.specs.Once.{FixedBy, FixedIf, Fixed, OnceBy, Once, SamePart, SamePartIf}
 
 pub record OfTable : Type 2 where
   pub shape : Once contracts.network.shape.ended network.shape.Reads.Asked network.shape.Reads.Learnt
@@ -26,8 +26,9 @@ pub record OfTable : Type 2 where
   pub turn : Fixed contracts.network.turn.ended network.turn.Reads.Learnt
   pub node_of : Fixed contracts.network.node_of.ended network.node_of.Reads.Learnt
   pub top_id : Fixed contracts.network.top_id.ended network.top_id.Reads.Learnt
-  -- a walk is compared by its bytes and by how many rows are behind it
+  -- a walk is compared by its bytes, where they stand, and how many rows are behind it
   pub first : Fixed contracts.walk.Rows.first.ended walk.Rows.first.Reads.Learnt
+  pub next : FixedBy contracts.walk.RowsIterator.next.ended (λ κs. SamePartIf) walk.RowsIterator.next.Reads.Learnt
   -- of a closure that leaves one row of a row and its number
   pub each_row_mut : (F : RattleType) (laws : Laws F) (calls : contracts.walk.each_row_mut.F-Fn.Ghosts F) (d d₁ d₂ d₃ : Dict)
       → FixedIf (contracts.walk.each_row_mut.ended F calls d d₁ d₂ d₃)

@@ -1,6 +1,6 @@
 -- What it is that a contract leaves one outcome: over the contract itself, so that a weaker contract breaks it.
 -- Assumes nothing.
-use Rattle.std.specs.Prelude.{◌≡◌, List, [], ℕ}
+use Rattle.std.specs.Prelude.{◌≡◌, Option, Some, None, List, [], ℕ}
 use contract.Lifetimes.{Lfts}
 use Rattle.std.specs.Borrow.{Bor}
 use denote.Triple.Clauses.{Ended, Lasts, AtExit, at_exit}
@@ -51,3 +51,9 @@ module _ (T : Ended) where
 -- a stretch of lent bytes that is handed back: the same bytes and, where there are any, at the same place
 abbrev pub SamePart : Bor (List ℕ) → Bor (List ℕ) → Type 0
 SamePart x x' = (x.now ≡ x'.now) × ((x.now ≡ [] → ⊥) → x.ref_ptr ≡ x'.ref_ptr)
+
+-- the same of a stretch that there may not be
+abbrev pub SamePartIf : Option (Bor (List ℕ)) → Option (Bor (List ℕ)) → Type 0
+SamePartIf (Some x) (Some x') = SamePart x x'
+SamePartIf None None = Unit {0}
+SamePartIf _ _ = ⊥

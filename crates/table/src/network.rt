@@ -11,7 +11,8 @@ ghost use Rattle.table.specs.Network.{rows, phase, holder, turned, regs_at, node
 use crate::walk::Rows;
 use registers::regs::Regs;
 
-pub(crate) const HEADER: usize = 16;
+// Kept: public, for whoever asks whether a header is there before `rows`, `phase`, `holder` or `turn`.
+pub const HEADER: usize = 16;
 
 pub const ROWS: usize = 60;
 

@@ -20,7 +20,7 @@ pub struct Rows<'a> {
 impl<'a> Model for Rows<'a> {
     ghost Value = { Walk };
 
-    ghost view = { λ s. record { net = s.net.now; passed = s.passed; count = s.count } };
+    ghost view = { λ s. record { place = s.net.ref_ptr; net = s.net.now; passed = s.passed; count = s.count } };
 
     ghost invariant = { λ s. (row_start s.net.now s.count ≤ length s.net.now) × (s.passed ≤ s.count) × (s.at ≡ row_start s.net.now s.passed) };
 }
@@ -31,7 +31,7 @@ impl<'a> Rows<'a> {
     #[tactic(auto, unfolding(crate::specs::Rows::row_start))]
     pub fn first(net: &'a [u8], n: usize) -> Rows<'a>
         requires { row_start net.now n ≤ length net.now }
-        ensures { result ≡ walk net.now n }
+        ensures { result ≡ walk net.entry.ref_ptr net.now n }
     {
         Rows {
             net,

@@ -29,7 +29,7 @@ counted_prop : (o : Option ℕ) → IsProp (IfSome o (λ k. 0 < k))
 counted_prop o = hlevel props
 
 -- a Bad is its two fields: of what its ghost field says there is one proof
-bad_is : (b c : Bad) → b.refusal ≡ c.refusal → b.«record» ≡ c.«record» → b ≡ c
+pub bad_is : (b c : Bad) → b.refusal ≡ c.refusal → b.«record» ≡ c.«record» → b ≡ c
 bad_is b c p q =
     λ i. record {
       refusal = p i;

@@ -1,7 +1,7 @@
 -- The fresh call: its refusals, and the header and the rows that it writes.
 -- Assumes nothing.
 use mathlib.Core.Path.{◌≡◌, refl, sym, ◌∙◌, ap}
-use mathlib.Core.Bool.{Bool, false, not, ◌||◌}
+use mathlib.Core.Bool.{Bool, true, false, not, ◌||◌}
 use mathlib.Core.List.{List, [], ◌∷◌, ◌++◌}
 use Prim.Native.Nat.{ℕ, ◌+◌, ◌-◌, ◌≤◌, ◌<◌, ◌*◌}
 use native.Mathlib.Nat.{add-zero}
@@ -14,7 +14,7 @@ use Rattle.told.specs.Numbers.{DONE, VALUE, ROOM, refuse, refuses}
 use Rattle.card.specs.Row.{row_bytes}
 use Rattle.card.specs.Access.{fresh_row}
 use Rattle.bits.proofs.Words.Bools.{or_right, or_left}
-use Rattle.told.proofs.Told.Smallest.{refuse_passed, none_refuses}
+use Rattle.told.proofs.Told.Smallest.{refuse_held, refuse_stays, refuse_passed, none_refuses}
 use Rattle.card.proofs.Rows.WellFormed.{length_fresh, fresh_whole}
 use Rattle.table.specs.Rows.{header_bytes, row_start, row_at, joined}
 use Rattle.table.specs.Network.{mark, row_limit, rows, phase, LOST}
@@ -30,6 +30,10 @@ pub fresh_small : (n : ℕ) → bad n ≡ false → n ≤ row_limit
 fresh_small n b = ltb-false _ _ (or_right (eqb n 0) (ltb row_limit n) b)
 
 module _ (net : List ℕ) (n : ℕ) where
+  pub fresh_value : bad n ≡ true → VALUE ≡ fresh_number net n
+  unfolding fresh_number fresh_refusals
+  fresh_value b = rw (refuse_held VALUE (bad n) b, refuse_stays VALUE ROOM (not (eqb (length net) (exact_length n))) (λ z. omega arith))
+
   pub fresh_asked : bad n ≡ false → (r : ℕ) → r ≡ refuse DONE ROOM (not (eqb (length net) (exact_length n))) → r ≡ fresh_number net n
   unfolding fresh_number fresh_refusals
   fresh_asked b r e = rw (refuse_passed DONE VALUE (bad n) b) e

@@ -21,8 +21,8 @@ use Rattle.table.specs.Walk.{Walk, walk, next_row}
 use Rattle.table.proofs.Folds.{every_at, every_of, clash}
 
 -- the walk before row k of n
-abbrev pub before_row : List ℕ → ℕ → ℕ → Walk
-before_row net n k = record { net = net; passed = k; count = n }
+abbrev pub before_row : ℕ × ℕ → List ℕ → ℕ → ℕ → Walk
+before_row place net n k = record { place = place; net = net; passed = k; count = n }
 
 -- m rows, from row k on
 abbrev pub rows_from : List ℕ → ℕ → ℕ → List (List ℕ)
@@ -38,8 +38,8 @@ yields =
     (λ s t e. let z : s.count - s.passed ≡ 0 = omega (arith, e.0) in rw z)
     (λ s x t e. let z : s.count - s.passed ≡ suc (s.count - (s.passed + 1)) = omega (arith, e.0) in rw (z, e.1, e.2, add-one))
 
-pub walk_yields : (net : List ℕ) (n : ℕ) → YieldsList next_row (λ r. r.now) (walk net n) (rows_from net 0 n)
-walk_yields net n = let z : n - 0 ≡ n = omega arith in rw z at (yields (walk net n))
+pub walk_yields : (place : ℕ × ℕ) (net : List ℕ) (n : ℕ) → YieldsList next_row (λ r. r.now) (walk place net n) (rows_from net 0 n)
+walk_yields place net n = let z : n - 0 ≡ n = omega arith in rw z at (yields (walk place net n))
 
 module _ (net : List ℕ) (f : List ℕ → Bool) where
   all_each : (m k : ℕ) → list_all f (rows_from net k m) ≡ true → (j : ℕ) → k ≤ j → j < k + m → f (row_at net j) ≡ true
@@ -63,11 +63,11 @@ module _ (net : List ℕ) (f : List ℕ → Bool) where
 
 -- ---- a loop over the rows: w is the walk before row k of n
 pub record Before (net : List ℕ) (n k : ℕ) (w : Walk) : Type 0 where
-  pub at : w ≡ before_row net n k
+  pub at : w ≡ before_row w.place net n k
   pub most : k ≤ n
 
 module _ (net : List ℕ) (n k : ℕ) (w : Walk) where
-  pub before_first : w ≡ walk net n → k ≡ 0 → Before net n k w
+  pub before_first : {place : ℕ × ℕ} → w ≡ walk place net n → k ≡ 0 → Before net n k w
   before_first p z = record { at = rw (p, z); most = omega (arith, z) }
 
   module _ (p : Before net n k w) where
@@ -83,7 +83,7 @@ module _ (net : List ℕ) (n k : ℕ) (w : Walk) where
         before_less = rw p.at at (e.0)
 
         pub before_next : (j : ℕ) → j ≡ k + 1 → Before net n j t
-        before_next j d = record { at = e.1 ∙ rw (p.at, d); most = omega (arith, d, before_less) }
+        before_next j d = record { at = rw (e.1, p.at, d); most = omega (arith, d, before_less) }
 
         pub before_is : row.now ≡ row_at net k
         before_is = e.2 ∙ rw p.at

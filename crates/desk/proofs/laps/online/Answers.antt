@@ -12,6 +12,6 @@ returns c =
     let n = c.args.n in
     let e =
     count_from_yields_List c.filter.result c.count.result c.count.ensures.ran
-    (YieldsList-from_filter _ (λ r. on_line (regs_of r)) (YieldsList-at (c.filter.ensures.source ∙ c.first.ensures) (walk_yields net n)) c.filter.ensures.closure (λ x r q k. search (rules, tests)))
+    (YieldsList-from_filter _ (λ r. on_line (regs_of r)) (YieldsList-at (c.filter.ensures.source ∙ c.first.ensures) (walk_yields _ net n)) c.filter.ensures.closure (λ x r q k. search (rules, tests)))
     ∙ rows_online net n in
     (e, omega (arith, e, online_most net n))

@@ -9,5 +9,5 @@ use Rattle.table.proofs.network.rows_fit.Goals as goal
 pub returns : goal.returns
 unfolding rows_fit
 returns c =
-    all_from_yields_List well_formed _ _ _ c.all.ensures.ran (YieldsList-at c.first.ensures (walk_yields c.args.net.now c.args.n)) (λ x b q k. search (rules, tests))
+    all_from_yields_List well_formed _ _ _ c.all.ensures.ran (YieldsList-at c.first.ensures (walk_yields _ c.args.net.now c.args.n)) (λ x b q k. search (rules, tests))
     ∙ all_every c.args.net.now well_formed c.args.n

@@ -1,4 +1,5 @@
-use Rattle.std.proofs.Common.{ℕ, ◌≤◌, ◌<◌, ◌≡◌, arith, refl}
+use Rattle.std.proofs.Common.{ℕ, ◌≤◌, ◌<◌, ◌≡◌, ◌∙◌, ap, arith, refl}
+use Rattle.places.specs.Places.{onward}
 use Rattle.table.proofs.Rows.Walks.{walk_room, walk_row, walk_on}
 use Rattle.table.proofs.walk.RowsIterator.next.Goals as goal
 
@@ -17,4 +18,4 @@ pub returns-clause-steps : goal.returns-clause-steps
 returns-clause-steps c =
     let p = c.self.invariant in
     let l = left p.1 c.if-self.false in
-    rw (← c.self.view_is) (l, refl, walk_row _ _ p.0 _ _ p.2 l _ c.row_from-row.ensures.bytes, c.row_from-row.ensures.size.0, c.row_from-row.ensures.size.1)
+    rw (← c.self.view_is) (l, refl, walk_row _ _ p.0 _ _ p.2 l _ c.row_from-row.ensures.bytes, c.row_from-row.ensures.size.0, c.row_from-row.ensures.size.1, c.row_from-row.ensures.place ∙ ap (onward _) p.2)
