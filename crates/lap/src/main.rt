@@ -5,10 +5,11 @@
 
 mod clerk;
 
-ghost use Rattle.std.specs.Prelude.{length, ◌+◌, ◌*◌, ◌≤◌, IfOk};
+ghost use Rattle.std.specs.Prelude.{◌≡◌, length, ◌+◌, ◌*◌, ◌≤◌, IfOk};
 ghost use Rattle.table.specs.Network.{row_limit};
 ghost use Rattle.table.specs.Calls.{exact_length};
 ghost use Rattle.orders.specs.Form.{record_bytes};
+ghost use Rattle.desk.specs.Lap.{lapping, lapped, net_after_lap, list_after_lap, nobody};
 
 use desk::laps::{Taker, nobody};
 use orders::check::Bad;
@@ -17,6 +18,7 @@ use std::io;
 use std::io::Read;
 use table::calls::{LONGEST, exact_length};
 use table::network::ROWS;
+use told::refusals::Refusal;
 
 // A byte more than the longest order, so that a longer one is seen to be too long.
 const ORDER: usize = RECORD * ROWS + 1;
@@ -54,8 +56,19 @@ fn takers(rt: &impl Print, order: &[u8], total: u16, list: &[Taker]) -> io::Resu
     Ok(())
 }
 
-// The order is loaded into a network of its length, which is lent, and its lap is run, lent a list of ROWS entries with
-// nobody in it. The n records of the order are n nodes on line: the first n entries of the list are their takers.
+// The lap call, lent a list of ROWS entries with nobody in it: what it answers, and the list.
+fn lap_list(net: &mut [u8]) -> (Result<u16, Refusal>, [Taker; ROWS])
+    ensures answer { lapping result.0 ≡ lapped net.old row_limit }
+    ensures bytes { net.new ≡ net_after_lap net.old row_limit }
+    ensures list { result.1 ≡ list_after_lap net.old nobody }
+{
+    let mut list = nobody();
+    let answer = desk::laps::lap(net, &mut list);
+    (answer, list)
+}
+
+// The order is loaded into a network of its length, which is lent, and its lap is run. The n records of the order are n nodes
+// on line: the first n entries of the list are their takers.
 fn answer(rt: &impl Print, err: &impl Print, order: &[u8], net: &mut [u8]) -> io::Result<()>
     requires order_len_bound { length order.now ≤ record_bytes * row_limit + 1 }
     requires row_limit_in_bounds { exact_length row_limit ≤ length net.old }
@@ -66,8 +79,8 @@ fn answer(rt: &impl Print, err: &impl Print, order: &[u8], net: &mut [u8]) -> io
         refuse(rt, bad)?;
         return clerk::unfit(err, order, bad);
     }
-    let mut list = nobody();
-    match desk::laps::lap(lent, &mut list) {
+    let (answer, list) = lap_list(lent);
+    match answer {
         Ok(total) => takers(rt, order, total, &list[0..n]),
         Err(refusal) => {
             // An order that was loaded is refused for one record alone, since the list has room (`TheLoading.lap`).

@@ -1,5 +1,5 @@
 -- The network of an order that fits the buffer fits its own.
-use Rattle.std.proofs.Common.{◌≡◌, ℕ, ◌+◌, ◌*◌, ◌≤◌, List, length, Option, Some, None, ap, arith}
+use Rattle.std.proofs.Common.{◌≡◌, ℕ, ◌+◌, ◌*◌, ◌≤◌, List, length, Option, Some, None, arith}
 use Rattle.std.specs.Prelude.{IfSome}
 use Rattle.table.specs.Network.{row_limit}
 use Rattle.table.specs.Calls.{exact_length}
@@ -35,4 +35,4 @@ unfit-requires g c = within _ _ (load_within _ _ _ c.in-Err.ensures.told)
 -- a record is a row, and the list has an entry for as many rows as there may be
 pub slice_bounds-takers-end : goal.slice_bounds-takers-end
 slice_bounds-takers-end g c =
-    let f = few _ _ c.records-n.ensures c.requires.order_len_bound in omega (arith, f, c.lap.auto.takers, ap length c.nobody-list.ensures)
+    let f = few _ _ c.records-n.ensures c.requires.order_len_bound in omega (arith, f)
