@@ -1,7 +1,7 @@
 -- The twenty bytes of document 01, and in a chaining row the two of C-11, are those that the bit layout takes for a command, and no others.
 -- Assumes nothing.
 use mathlib.Core.Path.{◌≡◌, refl}
-use mathlib.Core.Bool.{false, not}
+use mathlib.Core.Bool.{true, false, not}
 use mathlib.Core.List.{List, ◌++◌}
 use Prim.Native.Nat.{ℕ, ◌<◌}
 use lib.ListN.{get_or}
@@ -16,6 +16,10 @@ abbrev pub command_bytes : List ℕ
 command_bytes = legal_bytes ++ chain_bytes
 
 -- a byte is listed where it is a command, and nowhere else
+pub chain_legal : (c : ℕ) → c < 256 → illegal true (command_of c) ≡ not (among command_bytes c)
+unfolding command_of
+chain_legal = by_table false (λ c. illegal true (command_of c)) (λ c. not (among command_bytes c)) 256 refl
+
 pub plain_legal : (c : ℕ) → c < 256 → illegal false (command_of c) ≡ not (among legal_bytes c)
 unfolding command_of
 plain_legal = by_table false (λ c. illegal false (command_of c)) (λ c. not (among legal_bytes c)) 256 refl

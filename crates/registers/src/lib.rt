@@ -7,4 +7,5 @@ pub mod events;
 mod naks;
 pub mod refusals;
 pub mod regs;
-mod sides;
+// Kept: public, as the other modules of `Regs`; what it has is the crate's.
+pub mod sides;

@@ -3,7 +3,7 @@
 use mathlib.Core.Path.{◌≡◌, refl, sym, ap, ◌∙◌}
 use mathlib.Core.Bool.{Bool, true, false, true≢false}
 use mathlib.Core.List.{List}
-use Prim.Native.Nat.{ℕ, suc, ◌+◌, ◌*◌, ◌-◌, ◌^◌, ◌<◌, ◌≤◌}
+use Prim.Native.Nat.{ℕ, suc, ◌+◌, ◌*◌, ◌-◌, ◌<◌, ◌≤◌}
 use native.Mathlib.Omega.{arith}
 use lib.Dec.{eqb}
 use borrow.Author.Tests.{eq-eqb, ne_eqb}
@@ -111,8 +111,8 @@ module _ (net : List ℕ) (first : ℕ) (now : List ℕ) (list : List Taker) (n 
 
   -- an invitation is counted
   module _ (a : Answer) (new : List ℕ) (e : Stepped now a new) (sent : ℕ) (q : sent ≡ from_bool (invitation a)) where
-    -- the counts fit
-    pub turn_small : (recent + sent < 2 ^ 16) × (total + sent < 2 ^ 16)
+    -- the counts are small
+    pub turn_small : (recent + sent ≤ 257 + 2 * row_limit) × (total + sent ≤ 257 + 2 * row_limit)
     turn_small =
         let k = small net first now list n recent total v _ refl _ refl in
         let o = one_most (invitation a) in (omega (arith, q, k.0, o), omega (arith, q, k.1, o))

@@ -7,6 +7,7 @@ use Prim.Native.Nat.{ℕ, zero, suc, ◌+◌, ◌≤◌, ◌<◌}
 use native.Mathlib.Numerals.{add-one}
 use native.Mathlib.Omega.{arith}
 use borrow.Author.Tests.{eq-eqb, ne_eqb, eqb-false}
+use lib.ListN.{length}
 use Rattle.std.proofs.Common.{Result, Ok, Err}
 use Rattle.std.specs.Result.{IsErrAnd}
 use Rattle.told.specs.declared.refusals.Refusal.{Refusal}
@@ -36,6 +37,7 @@ fresh_kept net n u = rw (ne_eqb (fresh_number net n) 0 u)
 pub record Writable (net new : List ℕ) : Type 0 where
   pub shaped : shape new ≡ true
   pub count : rows new ≡ rows net
+  pub long : length new ≡ length net
 
 pub at_place : (net : List ℕ) (k : ℕ) → k < rows net → (x y : List ℕ) → x ≡ y → Writable net y → (shape x ≡ true) × (k < rows x)
 at_place net k l x y e h = rw e (h.shaped, omega (arith, h.count))
@@ -48,14 +50,14 @@ module _ (net : List ℕ) (k : ℕ) (p : (shape net ≡ true) × (k < rows net))
   writable_write : (a : List ℕ) → Writable net a → (r v : ℕ) → Writable net (net_after_write a k r v)
   writable_write a h r v =
       let b = write_beside a h.shaped k (omega (arith, h.count, p.1)) r v in
-      record { shaped = shape_write a h.shaped k r v; count = beside_count b ∙ h.count }
+      record { shaped = shape_write a h.shaped k r v; count = beside_count b ∙ h.count; long = b.long ∙ h.long }
 
   writable_pick : (b : Bool) (a : List ℕ) → Writable net a → (r v : ℕ) → Writable net (pick b (net_after_write a k r v) a)
   writable_pick true a h r v = writable_write a h r v
   writable_pick false a h r v = h
 
   pub writable_19 : Writable net (set19 net k)
-  writable_19 = writable_write net (record { shaped = p.0; count = refl }) 6 0x19
+  writable_19 = writable_write net (record { shaped = p.0; count = refl; long = refl }) 6 0x19
 
   module _ (i flags : ℕ) where
     pub writable_id : Writable net (set_id (set19 net k) k i)
@@ -84,11 +86,11 @@ module _ (order net : List ℕ) where
 
   writable_rows : shape net ≡ true → (k : ℕ) → k ≤ rows net → Writable net (loaded_rows order net k)
   unfolding loaded_rows
-  writable_rows s zero l = record { shaped = s; count = refl }
+  writable_rows s zero l = record { shaped = s; count = refl; long = refl }
   writable_rows s (suc k) l =
       let h = writable_rows s k (omega arith) in
       let r = writable_row (loaded_rows order net k) k (h.shaped, omega (arith, h.count)) (id_at order k) (flags_of (record_at order k)) in
-      record { shaped = r.shaped; count = r.count ∙ h.count }
+      record { shaped = r.shaped; count = r.count ∙ h.count; long = r.long ∙ h.long }
 
 -- ---- what `?` hands on, and that a refusal is not DONE
 pub handed : (r : Result Unit Bad) (b : Bad) → IsErrAnd r (λ y. y ≡ b) → verdict r ≡ verdict (Err b)

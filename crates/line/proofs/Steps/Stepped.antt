@@ -6,7 +6,7 @@ use mathlib.Core.List.{List}
 use mathlib.Core.Logic.{⊎_elim}
 use Prim.Native.Nat.{ℕ, ◌<◌}
 use native.Mathlib.Omega.{arith}
-use borrow.Author.Tests.{eqb-true, eqb-false, not-false}
+use borrow.Author.Tests.{eq-eqb, eqb-true, eqb-false, not-false}
 use lib.Dec.{eqb, ltb}
 use Rattle.line.specs.Answers.{Answer}
 use Rattle.told.specs.Numbers.{SHAPE}
@@ -29,6 +29,12 @@ module _ (net : List ℕ) (fault : ℕ) where
     pub step_shape : k ≡ 0 → shape net ≡ true
     unfolding step_number step_refusals
     step_shape z = not-false (shape net) (none_refuses (step_refusals net fault) refl (sym number_is ∙ z) SHAPE)
+
+    -- where no refusal holds, the step's answer and bytes are the turn's
+    pub steps : k ≡ 0 → (a : Answer) (y : List ℕ) → (a ≡ (step_turn net fault).answer) × (y ≡ (step_turn net fault).after)
+        → (a ≡ (step net fault).answer) × (y ≡ (step net fault).after)
+    unfolding step
+    steps z a y e = (rw (← number_is, eq-eqb _ _ z) e.0, rw (← number_is, eq-eqb _ _ z) e.1)
 
 -- ---- the number of what a step answers is that of its refusals
 abbrev Done : Turn Answer → Type 0

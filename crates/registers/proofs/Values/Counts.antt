@@ -42,6 +42,10 @@ module _ (g : Regs) where
   unfolding enquired heard
   naks_refused = counted_naks g
 
+  pub naks_unanswered : naks (enquired g false) ≡ 0
+  unfolding enquired sent
+  naks_unanswered = refl
+
   -- ---- a write, and a hardware reset
   naks_commanded : (c : Option Command) → naks (commanded g c) ≡ pick (drops_command c) 0 (naks g)
   unfolding commanded

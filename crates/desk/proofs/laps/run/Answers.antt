@@ -20,14 +20,14 @@ overflow_add-since c =
     let r =
     turn_small _ _ _ _ _ _ _ c.loop-row.invariant _ _
     (c.step_on-answer.ensures.answer, c.step_on-answer.ensures.bytes) _ (c.from-sent.ensures ∙ ap from_bool c.invitation.ensures) in
-    omega (arith, r.0)
+    omega (arith, r.0, r.1)
 
 pub overflow_add-walk : goal.overflow_add-walk
 overflow_add-walk c =
     let r =
     turn_small _ _ _ _ _ _ _ c.loop-row.invariant _ _
     (c.step_on-answer.ensures.answer, c.step_on-answer.ensures.bytes) _ (c.from-sent.ensures ∙ ap from_bool c.invitation.ensures) in
-    omega (arith, r.1)
+    omega (arith, r.0, r.1)
 
 pub regs_at-requires : goal.regs_at-requires
 regs_at-requires c =
